@@ -1,0 +1,5 @@
+pub mod Choice
+pub mod Numbers
+pub mod Rings
+pub mod Slots
+pub mod Sublist

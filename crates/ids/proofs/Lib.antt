@@ -1,0 +1,7 @@
+pub mod Bits
+pub mod Fields
+pub mod Frames
+pub mod EventMask
+pub mod RoundTrip
+pub mod Counting
+pub mod Sheet

@@ -1,0 +1,55 @@
+use Rattle.ids.specs.Frames.{headerRefusal}
+use Rattle.common.proofs.Bools.{said, denied}
+use borrow.Author.Tests.{le-leb, lt-leb, lt-ltb, le-ltb}
+use borrow.Author.Needs.{needs}
+use Rattle.ids.proofs.frame.header_refusal.Statement.{statement}
+use Rattle.ids.proofs.frame.header_refusal.Tie as tie
+
+is-format-requires : tie.Need-is-format-requires
+is-format-requires c κs = search needs
+
+returns : tie.Need-returns
+unfolding headerRefusal
+returns c = simp (denied (c .before .is-format .ensures) (c .if1 .taken))
+
+id-limit-requires : tie.Need-id-limit-requires
+id-limit-requires c κs = search needs
+
+returns-2 : tie.Need-returns-2
+unfolding headerRefusal
+returns-2 c = simp (said (c .before .before .before .before .is-format .ensures) (c .before .before .before .if1 .left), ← c .before .before .id-limit .ensures, le-ltb _ _ (c .if2 .taken))
+
+returns-3 : tie.Need-returns-3
+unfolding headerRefusal
+returns-3 c =
+    let b = c .before .before .before .before in
+    simp (said (b .before .before .is-format .ensures) (b .before .if1 .left), ← b .id-limit .ensures, lt-ltb _ _ (c .before .before .if2 .left), lt-leb _ _ (c .if3 .taken))
+
+returns-4 : tie.Need-returns-4
+unfolding headerRefusal
+returns-4 c =
+    let b = c .before .before .before .before .before .before in
+    simp (
+      said (b .before .before .is-format .ensures) (b .before .if1 .left),
+      ← b .id-limit .ensures,
+      lt-ltb _ _ (c .before .before .before .before .if2 .left),
+      le-leb _ _ (c .before .before .if3 .left),
+      lt-leb _ _ (c .if4 .taken),
+    )
+
+returns-5 : tie.Need-returns-5
+unfolding headerRefusal
+returns-5 c =
+    let b = c .before .before .before .before .before .before in
+    simp (
+      said (b .before .before .is-format .ensures) (b .before .if1 .left),
+      ← b .id-limit .ensures,
+      lt-ltb _ _ (c .before .before .before .before .if2 .left),
+      le-leb _ _ (c .before .before .if3 .left),
+      le-leb _ _ (c .if4 .left),
+    )
+
+pub header-refusal-spec : {M : Type 1} → statement M
+header-refusal-spec =
+    tie.close
+    (tie.spec is-format-requires returns id-limit-requires returns-2 returns-3 returns-4 returns-5)

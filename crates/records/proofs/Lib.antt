@@ -1,0 +1,5 @@
+pub mod Data
+pub mod Laws
+pub mod RoundTrip
+pub mod EventRoundTrip
+pub mod Examples

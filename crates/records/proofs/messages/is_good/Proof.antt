@@ -1,0 +1,39 @@
+use mathlib.Core.Path.{sym, _∙_}
+use borrow.Author.Tests.{eq-eqb, ne-eqb}
+use borrow.Author.Needs.{needs}
+use Rattle.records.specs.Messages.{goodMessage}
+use Rattle.records.proofs.messages.is_good.Statement.{statement}
+use Rattle.records.proofs.messages.is_good.Tie as tie
+
+header-refusal-requires : tie.Need-header-refusal-requires
+header-refusal-requires c κs = search needs
+
+returns : tie.Need-returns
+unfolding goodMessage
+returns c = simp (ne-eqb _ _ (λ e. c .if1 .taken (c .before .header-refusal .ensures ∙ e)))
+
+slice-aggregate-zero-past : tie.Need-slice-aggregate-zero-past
+slice-aggregate-zero-past c = search needs
+
+carried-by-requires : tie.Need-carried-by-requires
+carried-by-requires c κs = search needs
+
+zero-past-requires : tie.Need-zero-past-requires
+zero-past-requires c κs = search needs
+
+returns-2 : tie.Need-returns-2
+unfolding goodMessage
+returns-2 c =
+    let p = c .before .before .before .before in
+    simp (eq-eqb _ _ (sym (p .before .header-refusal .ensures) ∙ p .if1 .left), c .zero-past .ensures, c .before .carried-by .ensures)
+
+pub is-good-spec : {M : Type 1} → statement M
+is-good-spec =
+    tie.close
+    (tie.spec
+    header-refusal-requires
+    returns
+    slice-aggregate-zero-past
+    carried-by-requires
+    zero-past-requires
+    returns-2)

@@ -1,0 +1,37 @@
+use borrow.Author.Tests.{eq-eqb, ne-eqb}
+use borrow.Author.Needs.{needs}
+use Rattle.records.specs.Messages.{isMessage}
+use Rattle.records.proofs.messages.is_message.Statement.{statement}
+use Rattle.records.proofs.messages.is_message.Tie as tie
+
+returns : tie.Need-returns
+unfolding isMessage
+returns c = simp (ne-eqb _ _ (c .if1 .taken))
+
+shared-slice-read-if2 : tie.Need-shared-slice-read-if2
+shared-slice-read-if2 c = search needs
+
+returns-2 : tie.Need-returns-2
+unfolding isMessage
+returns-2 c = simp (eq-eqb _ _ (c .before .before .if1 .left), ne-eqb _ _ (c .if2 .taken))
+
+message-in-requires : tie.Need-message-in-requires
+message-in-requires c κs = search needs
+
+is-good-requires : tie.Need-is-good-requires
+is-good-requires c κs = search needs
+
+returns-3 : tie.Need-returns-3
+unfolding isMessage
+returns-3 c = simp (eq-eqb _ _ (c .before .before .before .before .if1 .left), eq-eqb _ _ (c .before .before .if2 .left), c .is-good .ensures, c .before .message-in .ensures)
+
+pub is-message-spec : {M : Type 1} → statement M
+is-message-spec =
+    tie.close
+    (tie.spec
+    returns
+    shared-slice-read-if2
+    returns-2
+    message-in-requires
+    is-good-requires
+    returns-3)

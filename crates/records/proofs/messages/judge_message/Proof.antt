@@ -1,0 +1,29 @@
+use denote.Ref.{now}
+use borrow.Author.Needs.{needs}
+use Rattle.common.proofs.Bools.{said, denied}
+use Rattle.records.specs.Messages.{judgeMessage}
+use Rattle.records.proofs.Laws.{message-tests}
+use Rattle.records.proofs.messages.judge_message.Statement.{statement}
+use Rattle.records.proofs.messages.judge_message.Tie as tie
+
+is-message-requires : tie.Need-is-message-requires
+is-message-requires c κs = search needs
+
+no-message-requires : tie.Need-no-message-requires
+no-message-requires c κs = search needs
+
+returns : tie.Need-returns
+unfolding judgeMessage
+returns c = simp (denied (c .before .before .is-message .ensures) (c .before .if1 .taken), c .no-message .ensures)
+
+message-in-requires : tie.Need-message-in-requires
+message-in-requires c κs = message-tests (now (c .before .before .before .args .s)) (said (c .before .is-message .ensures) (c .if1 .left)) .0
+
+returns-2 : tie.Need-returns-2
+unfolding judgeMessage
+returns-2 c = simp (said (c .before .before .is-message .ensures) (c .before .if1 .left), c .message-in .ensures)
+
+pub judge-message-spec : {M : Type 1} → statement M
+judge-message-spec =
+    tie.close
+    (tie.spec is-message-requires no-message-requires returns message-in-requires returns-2)

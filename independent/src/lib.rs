@@ -1,0 +1,31 @@
+//! The core of a CAN recorder: one device with one send buffer and one receive channel,
+//! built over tables that the caller lends.
+//!
+//! This is a second implementation, written from the papers (01, the product paper, and 002,
+//! the F&S CAN driver manual) for comparison with the proved core. Where 01 and 002 differ,
+//! 01 decides. "01" in the comments names a heading or words of that paper.
+//!
+//! Every call works for any field values, any table lengths and any numbers. A refused call
+//! answers its refusal number and zero values and changes nothing.
+
+#![forbid(unsafe_code)]
+
+pub mod bench;
+pub mod numbers;
+
+mod changes;
+mod device;
+mod ids;
+mod lines;
+mod printing;
+mod receiving;
+mod records;
+mod ring;
+mod sending;
+mod settings;
+mod text;
+
+pub use device::{Device, ReceiveSide, SendSide, Shared};
+pub use records::{Message, EVENT_BYTES, MESSAGE_BYTES};
+pub use ring::Ring;
+pub use settings::Settings;

@@ -1,0 +1,22 @@
+//! Tests against 01, one file per subject.
+
+mod any_values;
+mod bench_program;
+mod bench_sheet;
+mod calls;
+mod changes;
+mod filtering;
+mod impossible_states;
+mod message_text;
+mod model;
+mod naive;
+mod opening;
+mod printing;
+mod raising;
+mod random;
+mod reading;
+mod records;
+mod rig;
+mod sending;
+mod transmitting;
+mod xorshift;
