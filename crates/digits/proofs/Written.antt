@@ -1,0 +1,37 @@
+-- Laws of writers: one after another, and what is in the buffer in the end.
+use Prim.Native.Nat.{ℕ, suc, _+_, _≤_}
+use mathlib.Core.Path.{_≡_, refl, sym, ap, _∙_}
+use mathlib.Core.List.{List, [], _∷_, _++_}
+use native.Mathlib.Omega.{arith}
+use native.Mathlib.Nat.{add-zero, zero-add}
+use lib.ListN.{length, drop, set, length-append}
+use lib.Seq.{sets, sets-eq, length-sets}
+use Rattle.digits.specs.Written.{Put}
+
+-- a text written in two parts
+pub sets-append : (l : List ℕ) (i : ℕ) (xs ys : List ℕ) → sets l i (xs ++ ys) ≡ sets (sets l i xs) (i + length xs) ys
+sets-append l i [] ys = ap (λ (k : ℕ). sets l k ys) (sym (add-zero i))
+sets-append l i (x ∷ xs) ys =
+    let e : suc i + length xs ≡ i + suc (length xs) = omega arith in
+    sets-append (set l i x) (suc i) xs ys ∙ ap (λ (k : ℕ). sets (sets (set l i x) (suc i) xs) k ys) e
+
+-- one writer after another
+pub then : {o m n xs ys : List ℕ} {a p q : ℕ} → Put o a xs m p → Put m p ys n q → Put o a (xs ++ ys) n q
+then {o} {m} {n} {xs} {ys} {a} {p} {q} s t = record {
+  bytes = rw (sets-append o a xs ys, ← s .bytes, ← s .place) (t .bytes);
+  place = rw (length-append xs ys) (omega (arith, s .place, t .place));
+}
+
+-- one byte stored
+pub one : (o : List ℕ) (a b : ℕ) → Put o a (b ∷ []) (set o a b) (a + 1)
+one o a b = record { bytes = refl; place = refl }
+
+-- a writer keeps the buffer's length
+pub put-length : {o m xs : List ℕ} {a p : ℕ} → Put o a xs m p → length m ≡ length o
+put-length {o} {m} {xs} {a} {p} s = ap length (s .bytes) ∙ length-sets o a xs
+
+-- a line written from the front on: the line, then what was there
+pub printed : {o m xs : List ℕ} {p : ℕ} → Put o 0 xs m p → length xs ≤ length o → (m ≡ xs ++ drop (length xs) o) × (p ≡ length xs)
+printed {o} {m} {xs} {p} s h =
+    let z : 0 + length xs ≡ length xs = zero-add (length xs) in
+    (s .bytes ∙ sets-eq xs o 0 (rw z h) ∙ ap (λ (k : ℕ). xs ++ drop k o) z, s .place ∙ z)

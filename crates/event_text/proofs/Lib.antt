@@ -1,0 +1,5 @@
+pub mod CodeWords
+pub mod Good
+pub mod Length
+pub mod Printed
+pub mod Sheet

@@ -1,0 +1,15 @@
+pub mod Choices
+pub mod Ends
+pub mod Keeping
+pub mod Ids
+pub mod Data
+pub mod Judging
+pub mod Cases
+pub mod Later
+pub mod Listed
+pub mod Taken
+pub mod Sheet
+pub mod Length
+pub mod Lines
+pub mod Printed
+pub mod RoundTrip

@@ -1,0 +1,59 @@
+use Prim.Native.Nat.{_+_, _-_, _≤_}
+use mathlib.Core.Path.{_≡_}
+use native.Mathlib.Omega.{arith}
+use borrow.Author.Needs.{needs}
+use lib.ListN.{length, drop}
+use denote.Ref.{now}
+use Rattle.message_text.specs.Numbers.{beforeEnd}
+use Rattle.message_text.proofs.Ends.{before-last, before-stop, before-more}
+use Rattle.message_text.proofs.scanning.first_end.Statement.{statement}
+use Rattle.message_text.proofs.scanning.first_end.Tie as tie
+
+abbrev Inv-loop : tie.InvT-loop
+Inv-loop text from i₀ i = (i ≤ length text) × (from + beforeEnd (drop from text) ≡ i + beforeEnd (drop i text))
+
+abbrev μ-loop : tie.MeasureT-loop
+μ-loop text from i₀ i = length text - i
+
+loop-holds : tie.Need-loop-holds Inv-loop μ-loop
+loop-holds c = search needs
+
+shared-slice-read-byte-kind : tie.Need-shared-slice-read-byte-kind Inv-loop μ-loop
+shared-slice-read-byte-kind c = search needs
+
+byte-kind-requires : tie.Need-byte-kind-requires Inv-loop μ-loop
+byte-kind-requires c κs = search needs
+
+add-i : tie.Need-add-i Inv-loop μ-loop
+add-i c = search needs
+
+loop-less : tie.Need-loop-less Inv-loop μ-loop
+loop-less c = search needs
+
+loop-again : tie.Need-loop-again Inv-loop μ-loop
+loop-again c =
+    let k = c .before .byte-kind in
+    omega (arith, before-more (now (c .before .before .before .before .before .before .args .text)) (c .before .before .before .before .loop .i) (omega arith) (k .ensures) (c .if1 .left))
+
+returns : tie.Need-returns Inv-loop μ-loop
+returns c = omega (arith, before-last (now (c .before .before .before .args .text)) (c .before .loop .i) (omega arith))
+
+returns-2 : tie.Need-returns-2 Inv-loop μ-loop
+returns-2 c =
+    let k = c .before .byte-kind in
+    omega (arith, before-stop (now (c .before .before .before .before .before .before .args .text)) (c .before .before .before .before .loop .i) (omega arith) (k .ensures) (c .if1 .taken))
+
+pub first-end-spec : {M : Type 1} → statement M
+first-end-spec =
+    tie.close
+    (tie.spec
+    Inv-loop
+    μ-loop
+    loop-holds
+    shared-slice-read-byte-kind
+    byte-kind-requires
+    add-i
+    loop-less
+    loop-again
+    returns
+    returns-2)

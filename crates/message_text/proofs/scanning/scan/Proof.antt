@@ -1,0 +1,145 @@
+use Prim.Native.Nat.{_-_, _^_, _≤_}
+use mathlib.Core.Path.{ap}
+use mathlib.Core.Logic.{⊎-elim}
+use native.Mathlib.Omega.{arith}
+use borrow.Author.Needs.{needs}
+use denote.Ref.{now}
+use lib.ListN.{length}
+use Rattle.message_text.specs.Numbers.{between, within}
+use Rattle.message_text.specs.Scan.{keptMore}
+use Rattle.message_text.proofs.Keeping.{Going, start, digit, separator, cut, whole-last, whole-end, whole-separator, met-last, met-end, met-full}
+use Rattle.message_text.proofs.scanning.scan.Statement.{statement}
+use Rattle.message_text.proofs.scanning.scan.Tie as tie
+
+abbrev Inv-digits : tie.InvT-digits
+Inv-digits text kept₀ i₀ k v₀ kept i v = Going text (within v) kept i × (i₀ ≤ i) × (kept .count ≤ 11) × (v ≤ 2 ^ 32)
+
+abbrev μ-digits : tie.MeasureT-digits
+μ-digits text kept₀ i₀ k v₀ kept i v = length text - i
+
+abbrev Inv-numbers : tie.InvT-numbers
+Inv-numbers text kept₀ i₀ kept i = Going text between kept i × (kept .count ≤ 11)
+
+abbrev μ-numbers : tie.MeasureT-numbers
+μ-numbers text kept₀ i₀ kept i = length text - i
+
+numbers-holds : tie.Need-numbers-holds Inv-digits μ-digits Inv-numbers μ-numbers
+numbers-holds c = (start (now (c .before .args .text)), search needs)
+
+shared-slice-read-byte-kind :
+    tie.Need-shared-slice-read-byte-kind Inv-digits μ-digits Inv-numbers μ-numbers
+shared-slice-read-byte-kind c = search needs
+
+byte-kind-requires : tie.Need-byte-kind-requires Inv-digits μ-digits Inv-numbers μ-numbers
+byte-kind-requires c κs = search needs
+
+add-i : tie.Need-add-i Inv-digits μ-digits Inv-numbers μ-numbers
+add-i c = search needs
+
+cast-v : tie.Need-cast-v Inv-digits μ-digits Inv-numbers μ-numbers
+cast-v c = search needs
+
+digits-holds : tie.Need-digits-holds Inv-digits μ-digits Inv-numbers μ-numbers
+digits-holds c =
+    let k = c .before .before .byte-kind in
+    (digit (c .before .before .before .before .before .numbers .inv .0) (omega arith) (k .ensures) (c .if2 .taken), search needs, search needs, search needs)
+
+shared-slice-read-byte-kind-2 :
+    tie.Need-shared-slice-read-byte-kind-2 Inv-digits μ-digits Inv-numbers μ-numbers
+shared-slice-read-byte-kind-2 c = search needs
+
+byte-kind-requires-2 : tie.Need-byte-kind-requires-2 Inv-digits μ-digits Inv-numbers μ-numbers
+byte-kind-requires-2 c κs = search needs
+
+keep-requires : tie.Need-keep-requires Inv-digits μ-digits Inv-numbers μ-numbers
+keep-requires c κs = search needs
+
+add-i-2 : tie.Need-add-i-2 Inv-digits μ-digits Inv-numbers μ-numbers
+add-i-2 c = search needs
+
+with-digit-requires : tie.Need-with-digit-requires Inv-digits μ-digits Inv-numbers μ-numbers
+with-digit-requires c κs = search needs
+
+digits-less : tie.Need-digits-less Inv-digits μ-digits Inv-numbers μ-numbers
+digits-less c = search needs
+
+digits-again : tie.Need-digits-again Inv-digits μ-digits Inv-numbers μ-numbers
+digits-again c =
+    let k = c .before .before .before .byte-kind2 in
+    (cut (digit (c .before .before .before .before .before .before .digits .inv .0) (omega arith) (k .ensures) (omega arith)) (c .with-digit .ensures), search needs, search needs, search needs)
+
+-- where the loop over the digits is left, the number is whole, behind the last byte or behind a separator
+left :
+    (c : tie.Left-digits Inv-digits μ-digits Inv-numbers μ-numbers)
+    → (c .before .digits .i ≤ c .digits-test .i)
+    × Going (now (c .before .before .before .before .before .before .before .before .before .args .text)) between (keptMore (c .before .digits .kept) (c .before .digits .v)) (c .digits-test .i)
+left c =
+    let s = c .before .digits in
+    ⊎-elim
+    (λ w. (omega arith, rw (w .1) (whole-last (s .inv .0) (s .inv .3) (s .inv .2) (omega arith))))
+    (λ w. (omega arith, rw (w .5) (whole-separator (s .inv .0) (s .inv .3) (s .inv .2) (omega arith) (w .2 .ensures) (w .3 .left) (omega arith))))
+    (c .digits-test .came)
+
+keep-requires-2 : tie.Need-keep-requires-2 Inv-digits μ-digits Inv-numbers μ-numbers
+keep-requires-2 c κs = search needs
+
+numbers-less : tie.Need-numbers-less Inv-digits μ-digits Inv-numbers μ-numbers
+numbers-less c = let l = left (c .before .before .before) in omega (arith, l .0, l .1 .inside)
+
+numbers-again : tie.Need-numbers-again Inv-digits μ-digits Inv-numbers μ-numbers
+numbers-again c = let e = c .before .before .keep2 .ensures in (rw e (left (c .before .before .before) .1), omega (arith, ap (λ k. k .count) e))
+
+numbers-less-2 : tie.Need-numbers-less-2 Inv-digits μ-digits Inv-numbers μ-numbers
+numbers-less-2 c = search needs
+
+numbers-again-2 : tie.Need-numbers-again-2 Inv-digits μ-digits Inv-numbers μ-numbers
+numbers-again-2 c =
+    let k = c .before .before .byte-kind in
+    (separator (c .before .before .before .before .before .numbers .inv .0) (omega arith) (k .ensures) (c .before .if1 .left) (omega arith), search needs)
+
+returns : tie.Need-returns Inv-digits μ-digits Inv-numbers μ-numbers
+returns c = met-last (c .before .numbers .inv .0) (omega arith)
+
+returns-2 : tie.Need-returns-2 Inv-digits μ-digits Inv-numbers μ-numbers
+returns-2 c = met-end (c .before .before .before .before .numbers .inv .0) (omega arith) (c .before .byte-kind .ensures) (c .if1 .taken)
+
+returns-3 : tie.Need-returns-3 Inv-digits μ-digits Inv-numbers μ-numbers
+returns-3 c =
+    let s = c .before .before .before .before .before .digits in
+    let k = c .before .before .byte-kind2 in
+    let e = c .before .if3 .taken in
+    rw (c .keep .ensures) (met-end (whole-end (s .inv .0) (s .inv .3) (s .inv .2) (omega arith) (k .ensures) e) (omega arith) (k .ensures) e)
+
+returns-4 : tie.Need-returns-4 Inv-digits μ-digits Inv-numbers μ-numbers
+returns-4 c = met-full (rw (c .before .before .keep2 .ensures) (left (c .before .before .before) .1)) (c .if5 .taken)
+
+pub scan-spec : {M : Type 1} → statement M
+scan-spec =
+    tie.close
+    (tie.spec
+    Inv-digits
+    μ-digits
+    Inv-numbers
+    μ-numbers
+    numbers-holds
+    shared-slice-read-byte-kind
+    byte-kind-requires
+    add-i
+    cast-v
+    digits-holds
+    shared-slice-read-byte-kind-2
+    byte-kind-requires-2
+    keep-requires
+    add-i-2
+    with-digit-requires
+    digits-less
+    digits-again
+    keep-requires-2
+    numbers-less
+    numbers-again
+    numbers-less-2
+    numbers-again-2
+    returns
+    returns-2
+    returns-3
+    returns-4)

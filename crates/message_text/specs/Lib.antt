@@ -1,0 +1,4 @@
+pub mod Numbers
+pub mod Scan
+pub mod Reading
+pub mod Printing

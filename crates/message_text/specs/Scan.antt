@@ -1,0 +1,28 @@
+-- What the code keeps of a text's numbers: the first eleven, each at most 2 ^ 32, and how many there are, at most 12.
+use Prim.Native.Nat.{ℕ, _+_, _≤_, min}
+use mathlib.Core.Path.{_≡_}
+use mathlib.Core.List.{List, map}
+use lib.ListN.{length, drop, set, replicate}
+use lib.Seq.{sets}
+use Rattle.digits.specs.Reading.{capped}
+use Rattle.message_text.specs.Numbers.{numbers, beforeEnd}
+use Rattle.message_text.specs.declared.Kept.{Kept}
+use Rattle.message_text.specs.declared.Scanned.{Scanned}
+
+-- one number more behind those that are kept
+abbrev pub keptMore : Kept → ℕ → Kept
+keptMore k v = record { count = min 12 (k .count + 1); at = set (k .at) (k .count) v }
+
+-- numbers kept behind n that are kept already
+unfoldable pub keptFrom : List ℕ → ℕ → List ℕ → Kept
+keptFrom at n values = record { count = min 12 (n + length values); at = sets at n values }
+
+-- a text's numbers, kept
+abbrev pub keptOf : List ℕ → Kept
+keptOf values = keptFrom (replicate 11 0) 0 (map capped values)
+
+-- a scan keeps the text's numbers and stops inside the text, with no end before
+pub record ScanMet (text : List ℕ) (r : Scanned) : Type 0 where
+  pub kept : r .kept ≡ keptOf (numbers text)
+  pub inside : r .stop ≤ length text
+  pub clear : beforeEnd text ≡ r .stop + beforeEnd (drop (r .stop) text)

@@ -1,0 +1,96 @@
+// A message text scanned once, from its first byte through its run of ends.
+use crate::Kept;
+use crate::Scanned;
+ghost use mathlib.Core.Path.{_≡_};
+ghost use Prim.Native.Nat.{_+_, _≤_};
+ghost use lib.ListN.{length, drop};
+ghost use Rattle.digits.specs.Reading.{capped};
+ghost use Rattle.message_text.specs.Numbers.{numbers, beforeEnd, endRun};
+ghost use Rattle.message_text.specs.Scan.{keptMore, ScanMet};
+
+// The number v kept behind the others; the twelfth is only counted.
+pub fn keep(kept: Kept, v: u64) -> Kept
+    ensures { λ r. ⌜ r ≡ keptMore kept v ⌝ }
+{
+    let n = kept.count;
+    let mut at = kept.at;
+    if 11 <= n {
+        return Kept { count: 12, at: at };
+    }
+    at[n] = v;
+    Kept {
+        count: n + 1,
+        at: at,
+    }
+}
+
+// The numbers of a text, up to its first end or through its twelfth number.
+pub fn scan(text: &[u8]) -> Scanned
+    ensures { λ r. ⌜ ScanMet (now (text .entry)) r ⌝ }
+{
+    let mut kept = Kept {
+        count: 0,
+        at: [0u64; 11],
+    };
+    let mut i: usize = 0;
+    'numbers: while i < text.len() {
+        let k = digits::reading::byte_kind(text[i]);
+        if k == 17 {
+            break 'numbers;
+        }
+        i += 1;
+        if k < 16 {
+            let mut v = k as u64;
+            'digits: while i < text.len() {
+                let d = digits::reading::byte_kind(text[i]);
+                if d == 17 {
+                    kept = keep(kept, v);
+                    break 'numbers;
+                }
+                i += 1;
+                if 16 <= d {
+                    break 'digits;
+                }
+                v = digits::reading::with_digit(v, d);
+            }
+            kept = keep(kept, v);
+            if kept.count == 12 {
+                break 'numbers;
+            }
+        }
+    }
+    Scanned {
+        kept: kept,
+        stop: i,
+    }
+}
+
+// Where the first end from a position on stands, or the text's length.
+pub fn first_end(text: &[u8], from: usize) -> usize
+    requires { ⌜ from ≤ length (now text) ⌝ }
+    ensures { λ r. ⌜ r ≡ from + beforeEnd (drop from (now (text .entry))) ⌝ }
+{
+    let mut i = from;
+    while i < text.len() {
+        if digits::reading::byte_kind(text[i]) == 17 {
+            break;
+        }
+        i += 1;
+    }
+    i
+}
+
+// The position after the ends that stand in a row at a position.
+pub fn after_ends(text: &[u8], from: usize) -> usize
+    requires { ⌜ from ≤ length (now text) ⌝ }
+    ensures { λ r. ⌜ r ≡ from + endRun (drop from (now (text .entry))) ⌝ }
+{
+    let mut i = from;
+    while i < text.len() {
+        if digits::reading::byte_kind(text[i]) != 17 {
+            break;
+        }
+        i += 1;
+    }
+    i
+}
