@@ -1,0 +1,10 @@
+pub mod Meeting
+pub mod Ready
+pub mod OpenWays
+pub mod ChangeWays
+pub mod ReadWays
+pub mod SendWays
+pub mod RegisterWays
+pub mod PrintWays
+pub mod Unique
+pub mod Apart

@@ -1,0 +1,88 @@
+use mathlib.Core.Path.{refl, _∙_}
+use denote.Ref.{now}
+use mathlib.Core.List.{[]}
+use Rattle.recorder.specs.Outcomes.{lends}
+use Rattle.common.proofs.Bools.{said, denied}
+use borrow.Author.Tests.{not-true, not-false}
+use Rattle.recorder.proofs.Meeting.{queue-met}
+use Rattle.recorder.proofs.RegisterWays.{abort-2, abort-quiet, abort-noted}
+use borrow.Author.Needs.{needs}
+use Rattle.recorder.proofs.register.abort.Statement.{statement}
+use Rattle.recorder.proofs.register.abort.Tie as tie
+
+queue-ready-requires : tie.Need-queue-ready-requires
+queue-ready-requires c κs = search needs
+
+answer-requires : tie.Need-answer-requires
+answer-requires c κs = search needs
+
+returns : tie.Need-returns
+returns c =
+    let a = c .before .before .before .before .args in
+    queue-met 2 0 [] _ _ (abort-2 (a .tick) (a .d) (lends (now (a .queue)) [] []) (denied (c .before .before .queue-ready .ensures) (c .before .if1 .taken))) (c .answer .ensures) refl
+
+cast-purged : tie.Need-cast-purged
+cast-purged c = search needs
+
+after-abort-requires : tie.Need-after-abort-requires
+after-abort-requires c κs = search needs
+
+with-send-requires : tie.Need-with-send-requires
+with-send-requires c κs = search needs
+
+answer-requires-2 : tie.Need-answer-requires-2
+answer-requires-2 c κs = search needs
+
+returns-2 : tie.Need-returns-2
+returns-2 c =
+    let a = c .before .before .before .before .before .before .before .before .before .before .before .before .args in
+    let queue-ready = c .before .before .before .before .before .before .before .before .before .before .queue-ready in
+    let if1 = c .before .before .before .before .before .before .before .before .before .if1 in
+    let after-abort = c .before .before .before .before .after-abort in
+    let with-send = c .before .before .before .with-send in
+    queue-met 0 _ [] _ _ (abort-quiet (a .tick) (a .d) (lends (now (a .queue)) [] []) (said (queue-ready .ensures) (if1 .left)) (not-true _ (c .before .if2 .taken)))
+    (c .answer2 .ensures ∙ rw (with-send .ensures, after-abort .ensures)) refl
+
+event-of-requires : tie.Need-event-of-requires
+event-of-requires c κs = search needs
+
+note-requires : tie.Need-note-requires
+note-requires c κs = search needs
+
+answer-requires-3 : tie.Need-answer-requires-3
+answer-requires-3 c κs = search needs
+
+same-length : tie.Need-same-length
+same-length c = search needs
+
+returns-3 : tie.Need-returns-3
+returns-3 c =
+    let a = c .before .before .before .before .before .before .before .before .before .before .before .before .before .before .before .before .before .args in
+    let queue-ready = c .before .before .before .before .before .before .before .before .before .before .before .before .before .before .before .queue-ready in
+    let if1 = c .before .before .before .before .before .before .before .before .before .before .before .before .before .before .if1 in
+    let after-abort = c .before .before .before .before .before .before .before .before .before .after-abort in
+    let with-send = c .before .before .before .before .before .before .before .before .with-send in
+    let if2 = c .before .before .before .before .before .before .if2 in
+    let event-of = c .before .before .before .before .before .event-of in
+    let note = c .before .before .before .note in
+    queue-met 0 _ [] _ _ (abort-noted (a .tick) (a .d) (lends (now (a .queue)) [] []) (said (queue-ready .ensures) (if1 .left)) (not-false _ (if2 .left)))
+    (c .answer3 .ensures ∙ rw (note .ensures .device, with-send .ensures, after-abort .ensures, event-of .ensures))
+    (rw (with-send .ensures, event-of .ensures) at (note .ensures .queue-bytes))
+
+pub abort-spec : {M : Type 1} → statement M
+abort-spec =
+    tie.close
+    (tie.spec
+    queue-ready-requires
+    answer-requires
+    returns
+    cast-purged
+    after-abort-requires
+    with-send-requires
+    answer-requires-2
+    returns-2
+    event-of-requires
+    note-requires
+    answer-requires-3
+    same-length
+    returns-3)

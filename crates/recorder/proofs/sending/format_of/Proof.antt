@@ -1,0 +1,19 @@
+use Rattle.recorder.specs.State.{formatOf}
+use borrow.Author.Tests.{eq-eqb, ne-eqb}
+use Rattle.recorder.proofs.sending.format_of.Statement.{statement}
+use Rattle.recorder.proofs.sending.format_of.Tie as tie
+
+returns : tie.Need-returns
+unfolding formatOf
+returns c = rw (ne-eqb _ _ (c .if1 .taken))
+
+returns-2 : tie.Need-returns-2
+unfolding formatOf
+returns-2 c = rw (eq-eqb _ _ (c .before .before .if1 .left), eq-eqb _ _ (c .if2 .taken))
+
+returns-3 : tie.Need-returns-3
+unfolding formatOf
+returns-3 c = rw (eq-eqb _ _ (c .before .before .if1 .left), ne-eqb _ _ (c .if2 .left))
+
+pub format-of-spec : {M : Type 1} → statement M
+format-of-spec = tie.close (tie.spec returns returns-2 returns-3)

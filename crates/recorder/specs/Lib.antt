@@ -1,0 +1,5 @@
+pub mod State
+pub mod Outcomes
+pub mod Receiving
+pub mod Sending
+pub mod Printing

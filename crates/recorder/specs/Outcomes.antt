@@ -1,0 +1,136 @@
+-- What a call answers and leaves, and the event that a call raises beside its answer.
+use Prim.Native.Nat.{ℕ}
+use mathlib.Core.Path.{_≡_}
+use mathlib.Core.Bool.{Bool, _&&_}
+use mathlib.Core.List.{List, []}
+use lib.ListN.{length, replicate}
+use lib.Dec.{eqb}
+use Rattle.common.specs.Choice.{pick}
+use Rattle.records.specs.Messages.{stored}
+use Rattle.records.specs.Events.{holdsFrame, kindOf}
+use Rattle.records.specs.declared.Message.{Message}
+use Rattle.records.specs.declared.Kind.the-variants.{Other}
+use Rattle.records.specs.declared.Event.{Event}
+use Rattle.queue.specs.Queue.{Raising, raising, queueFits}
+use Rattle.outbox.specs.Outbox.{sendFits}
+use Rattle.recorder.specs.State.{good, withReceive}
+use Rattle.recorder.specs.declared.Device.{Device}
+use Rattle.recorder.specs.declared.Answer.{Answer}
+use Rattle.recorder.specs.declared.Record.{Record}
+use Rattle.recorder.specs.declared.Taken.{Taken}
+use Rattle.recorder.specs.declared.Through.{Through}
+use Rattle.digits.specs.declared.Printed.{Printed}
+
+-- what a call is lent: the event table, the message table, the output buffer
+pub record Lent : Type 0 where
+  pub queue : List ℕ
+  pub send : List ℕ
+  pub out : List ℕ
+
+abbrev pub lends : List ℕ → List ℕ → List ℕ → Lent
+lends queue send out = record { queue = queue; send = send; out = out }
+
+-- what a call answers: the paper's number, a value (a line's length, the bytes used, how many were purged or let through), the bytes read or taken;
+-- and what it leaves: the device and every byte that it was lent
+pub record Outcome : Type 0 where
+  pub number : ℕ
+  pub value : ℕ
+  pub bytes : List ℕ
+  pub device : Device
+  pub lent : Lent
+
+abbrev pub ends : ℕ → ℕ → List ℕ → Device → Lent → Outcome
+ends n v b d l = record { number = n; value = v; bytes = b; device = d; lent = l }
+
+-- a refusal returns its number and zero values; state and bytes stay
+abbrev pub refuses : ℕ → Device → Lent → Outcome
+refuses n d l = ends n 0 [] d l
+
+-- the tables that a call is lent are as long as their capacities need, and the state is possible: else refusal 2
+abbrev pub queueReady : Device → Lent → Bool
+queueReady d l = good d && queueFits (d .receive) (length (l .queue))
+
+abbrev pub sendReady : Device → Lent → Bool
+sendReady d l = good d && sendFits (d .send) (length (l .send))
+
+abbrev pub bothReady : Device → Lent → Bool
+bothReady d l = queueReady d l && sendFits (d .send) (length (l .send))
+
+-- the event of a code and a tick: the tick becomes time low, time high is 0; codes 1 to 3 hold the frame as it is stored, other codes ignore it
+unfoldable pub eventOf : ℕ → ℕ → Message → Event
+eventOf code tick m =
+    pick (holdsFrame code)
+    (record { kind = kindOf code (m .header); low = tick; high = 0; lost = 0; bytes = stored m .bytes })
+    (record { kind = Other code; low = tick; high = 0; lost = 0; bytes = replicate 8 0 })
+
+-- the lent tables with another event table, another message table, another buffer
+abbrev pub withQueue : Lent → List ℕ → Lent
+withQueue l t = record { queue = t; send = l .send; out = l .out }
+
+abbrev pub withTable : Lent → List ℕ → Lent
+withTable l t = record { queue = l .queue; send = t; out = l .out }
+
+abbrev pub withOut : Lent → List ℕ → Lent
+withOut l t = record { queue = l .queue; send = l .send; out = t }
+
+-- an event meets filter, mask and queue of the device
+abbrev pub met : Event → Device → Lent → Raising
+met e d l = raising (d .shared .mode) (d .shared .align) (d .receive) e (l .queue)
+
+-- a call's outcome with the event that it raises beside it: number, value and bytes stay
+unfoldable pub noted : Event → Outcome → Outcome
+noted e o =
+    let r : Raising = met e (o .device) (o .lent) in
+    ends (o .number) (o .value) (o .bytes) (withReceive (o .device) (r .receive)) (withQueue (o .lent) (r .table))
+
+-- what raising an event beside a call promises: the device and every byte of the event table
+pub record NoteMet (r : Raising) (d : Device) (n : Device) (queue : List ℕ) : Type 0 where
+  pub device : n ≡ withReceive d (r .receive)
+  pub queue-bytes : queue ≡ r .table
+
+-- the event is raised only where the test holds
+abbrev pub notedIf : Bool → Event → Outcome → Outcome
+notedIf b e o = pick b (noted e o) o
+
+-- the answer of an outcome, as the code returns it
+abbrev pub answers : ℕ → ℕ → Device → Answer
+answers n v d = record { number = n; value = v; device = d }
+
+abbrev pub answerOf : Outcome → Answer
+answerOf o = answers (o .number) (o .value) (o .device)
+
+abbrev pub recordOf : Outcome → Record
+recordOf o = record { number = o .number; bytes = o .bytes; device = o .device }
+
+abbrev pub takes : ℕ → List ℕ → Device → Taken
+takes n b d = record { number = n; bytes = b; device = d }
+
+abbrev pub takenOf : Outcome → Taken
+takenOf o = takes (o .number) (o .bytes) (o .device)
+
+abbrev pub throughOf : Outcome → Through
+throughOf o = record { number = o .number; count = o .value }
+
+abbrev pub printedOf : Outcome → Printed
+printedOf o = record { number = o .number; length = o .value }
+
+-- what a call promises that is lent the event table, the message table or the output buffer
+pub record QueueMet (o : Outcome) (r : Answer) (queue : List ℕ) : Type 0 where
+  pub answer : r ≡ answerOf o
+  pub queue-bytes : queue ≡ o .lent .queue
+
+pub record SendMet (o : Outcome) (r : Answer) (send : List ℕ) : Type 0 where
+  pub answer : r ≡ answerOf o
+  pub send-bytes : send ≡ o .lent .send
+
+pub record OutMet (o : Outcome) (r : Answer) (out : List ℕ) : Type 0 where
+  pub answer : r ≡ answerOf o
+  pub out-bytes : out ≡ o .lent .out
+
+pub record TakeMet (o : Outcome) (r : Taken) (queue : List ℕ) : Type 0 where
+  pub answer : r ≡ takenOf o
+  pub queue-bytes : queue ≡ o .lent .queue
+
+pub record PrintMet (o : Outcome) (r : Printed) (out : List ℕ) : Type 0 where
+  pub answer : r ≡ printedOf o
+  pub out-bytes : out ≡ o .lent .out

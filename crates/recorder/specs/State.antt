@@ -1,0 +1,65 @@
+-- A device's settings and state (01, "Settings", and refusals 1 and 2).
+use Prim.Native.Nat.{ℕ}
+use mathlib.Core.Bool.{Bool, false, _&&_}
+use lib.Dec.{leb, eqb}
+use Rattle.common.specs.Choice.{pick}
+use Rattle.common.specs.Rings.{emptyRing}
+use Rattle.ids.specs.Filters.{modeTakes}
+use Rattle.records.specs.Messages.{noMessage}
+use Rattle.queue.specs.Queue.{goodReceive}
+use Rattle.queue.specs.declared.Receive.{Receive}
+use Rattle.outbox.specs.Outbox.{goodSend}
+use Rattle.outbox.specs.declared.Send.{Send}
+use Rattle.recorder.specs.declared.Shared.{Shared}
+use Rattle.recorder.specs.declared.Device.{Device}
+use Rattle.recorder.specs.declared.Settings.{Settings}
+
+-- mode 0 or 1, format 0 to 2 but not 2 in mode 0, Align 0 to 3
+unfoldable pub goodShared : Shared → Bool
+goodShared s = leb (s .mode) 1 && leb (s .format) 2 && modeTakes (s .mode) (s .format) && leb (s .align) 3
+
+-- settings and state numbers that a device can have
+unfoldable pub good : Device → Bool
+good d = goodShared (d .shared) && goodReceive (d .receive) && goodSend (d .send)
+
+-- format 0 is the default: standard in mode 0, extended in mode 1
+unfoldable pub formatOf : Shared → ℕ → ℕ
+formatOf s format = pick (eqb format 0) (pick (eqb (s .mode) 0) 1 2) format
+
+-- the device that opening gives: both rings empty, first and pending 0, register empty
+abbrev pub fresh : Settings → Device
+fresh s = record {
+  shared = record { mode = s .mode; format = s .format; align = s .align };
+  receive = record {
+    filter = record { active = s .active; code = s .code; mask = s .mask };
+    events = s .events;
+    ring = emptyRing (s .queue);
+    pending = 0;
+  };
+  send = record { tx = s .tx; ring = emptyRing (s .buffer); held = false; message = noMessage };
+}
+
+-- the zeros that stand beside a refused opening
+abbrev pub noDevice : Device
+noDevice = fresh (record {
+  mode = 0;
+  format = 0;
+  align = 0;
+  active = 0;
+  code = 0;
+  mask = 0;
+  events = 0;
+  queue = 0;
+  tx = 0;
+  buffer = 0;
+})
+
+-- the device with other shared settings, another receive channel, another send channel
+abbrev pub withShared : Device → Shared → Device
+withShared d s = record { shared = s; receive = d .receive; send = d .send }
+
+abbrev pub withReceive : Device → Receive → Device
+withReceive d r = record { shared = d .shared; receive = r; send = d .send }
+
+abbrev pub withSend : Device → Send → Device
+withSend d s = record { shared = d .shared; receive = d .receive; send = s }

@@ -1,0 +1,66 @@
+// One CAN device: its settings, its receive channel and its send channel, and every public call.
+pub mod changes;
+pub mod opening;
+pub mod printing;
+pub mod receiving;
+pub mod register;
+pub mod sending;
+mod state;
+
+use outbox::Send;
+use queue::Receive;
+
+// What all channels of a device share.
+pub struct Shared {
+    pub mode: u32,
+    pub format: u32,
+    pub align: u32,
+}
+
+// The whole state of a device, by value.
+pub struct Device {
+    pub shared: Shared,
+    pub receive: Receive,
+    pub send: Send,
+}
+
+// What opening is given: MaskActive is `active`, the event mask `events`, TxMode `tx`; then the two capacities.
+pub struct Settings {
+    pub mode: u32,
+    pub format: u32,
+    pub align: u32,
+    pub active: u32,
+    pub code: u32,
+    pub mask: u32,
+    pub events: u32,
+    pub queue: u32,
+    pub tx: u32,
+    pub buffer: u32,
+}
+
+// The paper's number, its value (a length, the bytes used, how many were purged) and the device after the call.
+pub struct Answer {
+    pub number: u32,
+    pub value: usize,
+    pub device: Device,
+}
+
+// The answer of a read: the event's 32 bytes.
+pub struct Record {
+    pub number: u32,
+    pub bytes: [u8; 32],
+    pub device: Device,
+}
+
+// The answer of a take: the message's 16 bytes.
+pub struct Taken {
+    pub number: u32,
+    pub bytes: [u8; 16],
+    pub device: Device,
+}
+
+// The paper's number and how many identifiers a filter lets through.
+pub struct Through {
+    pub number: u32,
+    pub count: u32,
+}

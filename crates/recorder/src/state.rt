@@ -1,0 +1,154 @@
+// A device's state: is it possible, and with which part exchanged; the event that a call raises.
+use crate::Answer;
+use crate::Device;
+use crate::Shared;
+use outbox::Send;
+use queue::Receive;
+use records::Event;
+use records::Kind;
+use records::Message;
+ghost use mathlib.Core.Path.{_≡_};
+ghost use mathlib.Core.Bool.{_&&_};
+ghost use Rattle.queue.specs.Queue.{queueFits, raising};
+ghost use Rattle.outbox.specs.Outbox.{sendFits};
+ghost use Rattle.recorder.specs.State.{goodShared, good, withShared, withReceive, withSend};
+ghost use Rattle.recorder.specs.Outcomes.{answers, eventOf, NoteMet};
+
+// Mode, format and Align in their ranges.
+pub fn is_shared(s: Shared) -> bool
+    ensures { λ ok. ⌜ ok ≡ goodShared s ⌝ }
+{
+    if 1 < s.mode {
+        return false;
+    }
+    if 2 < s.format {
+        return false;
+    }
+    if !ids::acceptance::mode_takes(s.mode, s.format) {
+        return false;
+    }
+    s.align <= 3
+}
+
+// Settings and state numbers that a device can have.
+pub fn is_good(d: Device) -> bool
+    ensures { λ ok. ⌜ ok ≡ good d ⌝ }
+{
+    let shared = d.shared;
+    if !is_shared(shared) {
+        return false;
+    }
+    let receive = d.receive;
+    if !queue::raising::is_receive(receive) {
+        return false;
+    }
+    let send = d.send;
+    outbox::sending::is_send(send)
+}
+
+// The state is possible and the event table, of n bytes, long enough.
+pub fn queue_ready(d: Device, n: usize) -> bool
+    ensures { λ ok. ⌜ ok ≡ (good d && queueFits (d .receive) n) ⌝ }
+{
+    if !is_good(d) {
+        return false;
+    }
+    let receive = d.receive;
+    queue::raising::fits(receive, n)
+}
+
+// The state is possible and the message table, of n bytes, long enough.
+pub fn send_ready(d: Device, n: usize) -> bool
+    ensures { λ ok. ⌜ ok ≡ (good d && sendFits (d .send) n) ⌝ }
+{
+    if !is_good(d) {
+        return false;
+    }
+    let send = d.send;
+    outbox::sending::fits(send, n)
+}
+
+pub fn with_shared(d: Device, s: Shared) -> Device
+    ensures { λ n. ⌜ n ≡ withShared d s ⌝ }
+{
+    let receive = d.receive;
+    let send = d.send;
+    Device {
+        shared: s,
+        receive: receive,
+        send: send,
+    }
+}
+
+pub fn with_receive(d: Device, r: Receive) -> Device
+    ensures { λ n. ⌜ n ≡ withReceive d r ⌝ }
+{
+    let shared = d.shared;
+    let send = d.send;
+    Device {
+        shared: shared,
+        receive: r,
+        send: send,
+    }
+}
+
+pub fn with_send(d: Device, s: Send) -> Device
+    ensures { λ n. ⌜ n ≡ withSend d s ⌝ }
+{
+    let shared = d.shared;
+    let receive = d.receive;
+    Device {
+        shared: shared,
+        receive: receive,
+        send: s,
+    }
+}
+
+// The answer of a call.
+pub fn answer(number: u32, value: usize, d: Device) -> Answer
+    ensures { λ r. ⌜ r ≡ answers number value d ⌝ }
+{
+    Answer {
+        number: number,
+        value: value,
+        device: d,
+    }
+}
+
+// The event of a code and a tick, with the frame of codes 1 to 3.
+pub fn event_of(code: u32, tick: u32, m: Message) -> Event
+    ensures { λ e. ⌜ e ≡ eventOf code tick m ⌝ }
+{
+    if records::events::holds_frame(code) {
+        let kept = records::messages::stored(m);
+        let k = records::events::kind_of(code, kept.header);
+        let b = kept.bytes;
+        return Event {
+            kind: k,
+            low: tick,
+            high: 0,
+            lost: 0,
+            bytes: b,
+        };
+    }
+    let k = Kind::Other(code);
+    let b = [0u8; 8];
+    Event {
+        kind: k,
+        low: tick,
+        high: 0,
+        lost: 0,
+        bytes: b,
+    }
+}
+
+// The device after an event that a call raises beside its answer.
+pub fn note(d: Device, e: Event, table: &mut [u8]) -> Device
+    ensures { λ n. ⌜ NoteMet (raising (d .shared .mode) (d .shared .align) (d .receive) e (now (table .entry))) d n (now (table .exit)) ⌝ }
+{
+    let shared = d.shared;
+    let receive = d.receive;
+    let raised = queue::raising::raise(shared.mode, shared.align, receive, e, table);
+    let next = raised.receive;
+    with_receive(d, next)
+}
