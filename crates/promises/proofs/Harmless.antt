@@ -1,0 +1,379 @@
+-- Demand 1 over all calls at once, for any device and any lent bytes whatever.
+use mathlib.Core.Path.{_≡_, refl, sym, ap, _∙_}
+use mathlib.Core.Bool.{Bool, true, false, _&&_, _||_}
+use mathlib.Core.List.{List, [], _∷_}
+use Prim.Native.Nat.{ℕ, _^_, _≤_}
+use lib.ListN.{length, replicate}
+use lib.Dec.{ltb, leb, eqb}
+use borrow.Author.Tests.{le-leb, eqb-true}
+use Rattle.common.specs.Choice.{pick}
+use Rattle.common.proofs.Bools.{apart}
+use Rattle.ids.specs.Ids.{isFormat, idBits, rawOf}
+use Rattle.ids.specs.Filters.{modeTakes}
+use Rattle.ids.specs.EventMask.{maskLets}
+use Rattle.ids.specs.Frames.{headerRefusal}
+use Rattle.ids.specs.declared.Header.{Header}
+use Rattle.records.specs.declared.Message.{Message}
+use Rattle.records.specs.Events.{holdsFrame, codeOf, isEvent}
+use Rattle.records.specs.Messages.{isMessage, noMessage}
+use Rattle.records.specs.declared.Event.{Event}
+use Rattle.queue.specs.Queue.{queueFits, slotAt, usable, filtered, verdict, Raising, queued, raising, notRead, reading, lookNumber, looked}
+use Rattle.queue.specs.declared.Receive.{Receive}
+use Rattle.queue.specs.declared.ReadOut.{ReadOut}
+use Rattle.outbox.specs.Outbox.{Sending, sending, taking}
+use Rattle.outbox.specs.Outbox as Outbox
+use Rattle.outbox.specs.declared.Sent.{Sent}
+use Rattle.message_text.specs.Reading.{isBad}
+use Rattle.message_text.specs.Printing.{messageRefusal, messageRecordRefusal}
+use Rattle.message_text.proofs.Cases.{read-is}
+use Rattle.event_text.specs.Lines.{eventRecordRefusal}
+use Rattle.recorder.specs.State.{goodShared, good, fresh, noDevice, formatOf, withShared, withReceive}
+use Rattle.recorder.specs.Outcomes.{Lent, Outcome, ends, refuses, queueReady, sendReady, bothReady, noted, notedIf, eventOf, met, withQueue}
+use Rattle.recorder.specs.Receiving.{opened, changed, filterSet, eventMaskSet, frameRefusal, raised, recordRead, textRead, lookSaid, through}
+use Rattle.recorder.specs.Sending.{put, sentMessage, sent, putSaid, textSent, taken, finished, aborted}
+use Rattle.recorder.specs.Printing.{linePrinted, messageRecordPrinted, eventRecordPrinted, messagePrinted}
+use Rattle.recorder.specs.declared.Device.{Device}
+use Rattle.recorder.specs.declared.Shared.{Shared}
+use Rattle.recorder.specs.declared.Settings.{Settings}
+use Rattle.recorder.proofs.Ready.{align-in}
+use Rattle.promises.specs.Calls.{Call, raise, readText, readRecord, look, setMode, setFormat, setFilter, setEventMask, send, sendText, take, done, abort}
+use Rattle.promises.specs.Calls.{printMessageRecord, printEventRecord, printMessage, identifiersThrough, step, among, listed, isRefusal, beside, Harmless}
+
+-- a choice has what both its arms have, each under its test
+split : {A : Type 0} (P : A → Type 0) (b : Bool) (x y : A) → (b ≡ true → P x) → (b ≡ false → P y) → P (pick b x y)
+split P true x y p q = p refl
+split P false x y p q = q refl
+
+-- the same where the tests do not matter
+both : {A : Type 0} (P : A → Type 0) (b : Bool) (x y : A) → P x → P y → P (pick b x y)
+both P b x y p q = split P b x y (λ e. p) (λ e. q)
+
+module _ (ns : List ℕ) (d : Device) (l : Lent) where
+  abbrev H : Outcome → Type 0
+  H o = Harmless ns (λ v. v ≡ 0) d l o
+
+  refused : (n : ℕ) → among n ns ≡ true → H (refuses n d l)
+  refused n h = record { is-listed = h; device-kept = λ e. refl; bytes-kept = λ e. refl; zero-bytes = λ e. refl; zero-value = λ e. refl }
+
+  no-refusal : (o : Outcome) → among (o .number) ns ≡ true → isRefusal (o .number) ≡ false → H o
+  no-refusal o h z = record {
+    is-listed = h;
+    device-kept = λ e. absurd (apart (sym e ∙ z));
+    bytes-kept = λ e. absurd (apart (sym e ∙ z));
+    zero-bytes = λ e. absurd (apart (sym e ∙ z));
+    zero-value = λ e. absurd (apart (sym e ∙ z));
+  }
+
+  -- success answers 0, whatever it leaves
+  succeeds : (v : ℕ) (b : List ℕ) (e : Device) (m : Lent) → among 0 ns ≡ true → H (ends 0 v b e m)
+  unfolding isRefusal
+  succeeds v b e m h = no-refusal (ends 0 v b e m) h refl
+
+  -- and so it does with an event raised beside it
+  succeeds-noted : (b : Bool) (e : Event) (v : ℕ) (bs : List ℕ) (f : Device) (m : Lent) → among 0 ns ≡ true → H (notedIf b e (ends 0 v bs f m))
+  unfolding noted
+  succeeds-noted true e v bs f m h = succeeds v bs _ _ h
+  succeeds-noted false e v bs f m h = succeeds v bs f m h
+
+-- a first refusal that is not 0 is one of a header's
+header-number : (P : ℕ → Type 0) (h : Header) → P 0 → P 13 → P 8 → P 9 → P 10 → P (headerRefusal h)
+unfolding headerRefusal
+header-number P h p0 p13 p8 p9 p10 =
+    both P (isFormat (h .format)) _ _
+    (both P (ltb (h .id) (2 ^ idBits (h .format))) _ _ (both P (leb (h .rtr) 1) _ _ (both P (leb (h .dlc) 15) _ _ p0 p10) p9) p8)
+    p13
+
+-- a test of a number that is not 0
+abbrev Other : List ℕ → ℕ → Type 0
+Other ns n = eqb n 0 ≡ false → among n ns ≡ true
+
+module _ (ns : List ℕ) (d : Device) (l : Lent) where
+  -- a number that is 0 succeeds, any other is refused
+  by-number : (n : ℕ) (o : Outcome) → Other ns n → (n ≡ 0 → H ns d l o) → H ns d l (pick (eqb n 0) o (refuses n d l))
+  by-number n o h z = split (H ns d l) (eqb n 0) o (refuses n d l) (λ e. z (eqb-true n 0 e)) (λ e. refused ns d l n (h e))
+
+-- ---- what an event that is raised meets
+
+-- listed, and a refusal leaves channel and table
+record Met (r : Receive) (t : List ℕ) (g : Raising) : Type 0 where
+  number-in : among (g .number) (2 ∷ 100 ∷ 101 ∷ 102 ∷ 103 ∷ []) ≡ true
+  receive-kept : isRefusal (g .number) ≡ true → g .receive ≡ r
+  table-kept : isRefusal (g .number) ≡ true → g .table ≡ t
+
+raising-met : (mode align : ℕ) (r : Receive) (e : Event) (t : List ℕ) → Met r t (raising mode align r e t)
+unfolding raising queued verdict isRefusal
+raising-met mode align r e t =
+    both (Met r t) (usable r t) _ _
+    (split (Met r t) (eqb (verdict mode align r e) 0) _ _
+    (λ z. both (Met r t) (ltb (r .ring .count) (r .ring .capacity)) _ _
+    (record { number-in = refl; receive-kept = λ x. absurd (apart (sym x)); table-kept = λ x. absurd (apart (sym x)) })
+    (record { number-in = refl; receive-kept = λ x. absurd (apart (sym x)); table-kept = λ x. absurd (apart (sym x)) }))
+    (λ z. record { number-in = past z; receive-kept = λ x. refl; table-kept = λ x. refl }))
+    (record { number-in = refl; receive-kept = λ x. refl; table-kept = λ x. refl })
+  where
+    Past : ℕ → Type 0
+    Past n = eqb n 0 ≡ false → among n (2 ∷ 100 ∷ 101 ∷ 102 ∷ 103 ∷ []) ≡ true
+
+    past : Past (verdict mode align r e)
+    past =
+        both Past (filtered mode align r e) 101 (pick (maskLets (r .events) (codeOf (e .kind))) 0 102) (λ z. refl)
+        (both Past (maskLets (r .events) (codeOf (e .kind))) 0 102 (λ z. absurd (apart z)) (λ z. refl))
+
+-- ---- the calls
+
+module _ (d : Device) (l : Lent) where
+  abbrev raiseNumbers : List ℕ
+  raiseNumbers = 2 ∷ 13 ∷ 8 ∷ 9 ∷ 10 ∷ 100 ∷ 101 ∷ 102 ∷ 103 ∷ []
+
+  raise-fine : (code tick : ℕ) (m : Message) → H (listed (raise code tick m)) d l (raised code tick m d l)
+  unfolding raised listed
+  raise-fine code tick m =
+      both (H raiseNumbers d l) (queueReady d l) _ _ (by-number raiseNumbers d l (frameRefusal code m) _ (frame-in code m) (λ z. arrives (eventOf code tick m))) (refused raiseNumbers d l 2 refl)
+    where
+      frame-in : (code : ℕ) (m : Message) → Other raiseNumbers (frameRefusal code m)
+      frame-in code m =
+          both (Other raiseNumbers) (holdsFrame code) (headerRefusal (m .header)) 0
+          (header-number (Other raiseNumbers) (m .header) (λ z. absurd (apart z)) (λ z. refl) (λ z. refl) (λ z. refl) (λ z. refl))
+          (λ z. absurd (apart z))
+
+      arrives : (e : Event) → H raiseNumbers d l (ends (met e d l .number) 0 [] (withReceive d (met e d l .receive)) (withQueue l (met e d l .table)))
+      arrives e =
+          let g = raising-met (d .shared .mode) (d .shared .align) (d .receive) e (l .queue) in
+          record {
+            is-listed = wider (met e d l .number) (g .number-in);
+            device-kept = λ x. ap (λ (r : Receive). withReceive d r) (g .receive-kept x);
+            bytes-kept = λ x. ap (λ (t : List ℕ). withQueue l t) (g .table-kept x);
+            zero-bytes = λ x. refl;
+            zero-value = λ x. refl;
+          }
+        where
+          wider : (n : ℕ) → among n (2 ∷ 100 ∷ 101 ∷ 102 ∷ 103 ∷ []) ≡ true → among n raiseNumbers ≡ true
+          wider n h = by (eqb n 2) (eqb n 13) (eqb n 8) (eqb n 9) (eqb n 10) (among n (100 ∷ 101 ∷ 102 ∷ 103 ∷ [])) h
+            where
+              by : (a b c d e f : Bool) → (a || f) ≡ true → (a || (b || (c || (d || (e || f))))) ≡ true
+              by true b c d e f x = refl
+              by false true c d e f x = refl
+              by false false true d e f x = refl
+              by false false false true e f x = refl
+              by false false false false true f x = refl
+              by false false false false false f x = x
+
+  text-fine : H (listed readText) d l (textRead d l)
+  unfolding textRead listed
+  text-fine =
+      let ns : List ℕ = 2 ∷ 3 ∷ 4 ∷ 14 ∷ 0 ∷ [] in
+      both (H ns d l) (queueReady d l) _ _
+      (both (H ns d l) (ltb (length (l .out)) 80) _ _ (refused ns d l 3 refl)
+      (both (H ns d l) (eqb (d .receive .ring .count) 0) _ _ (refused ns d l 4 refl)
+      (both (H ns d l) (isEvent (slotAt (d .receive) (l .queue) 0)) _ _ (succeeds ns d l _ _ _ _ refl) (refused ns d l 14 refl))))
+      (refused ns d l 2 refl)
+
+  -- a read that is listed, and whose refusal leaves the channel and stands beside zeros
+  abbrev Read : ReadOut → Type 0
+  Read g = H (2 ∷ 4 ∷ 14 ∷ 0 ∷ []) d l (ends (g .number) 0 (g .bytes) (withReceive d (g .receive)) l)
+
+  not-read : (n : ℕ) → among n (2 ∷ 4 ∷ 14 ∷ 0 ∷ []) ≡ true → Read (notRead n (d .receive))
+  not-read n h = record { is-listed = h; device-kept = λ x. refl; bytes-kept = λ x. refl; zero-bytes = λ x. refl; zero-value = λ x. refl }
+
+  record-fine : H (listed readRecord) d l (recordRead d l)
+  unfolding recordRead reading listed
+  record-fine =
+      let ns : List ℕ = 2 ∷ 4 ∷ 14 ∷ 0 ∷ [] in
+      both (H ns d l) (queueReady d l) _ _
+      (both Read (usable (d .receive) (l .queue)) _ _
+      (both Read (eqb (d .receive .ring .count) 0) _ _ (not-read 4 refl)
+      (both Read (isEvent (slotAt (d .receive) (l .queue) 0)) _ _ (succeeds ns d l 0 _ _ _ refl) (not-read 14 refl)))
+      (not-read 2 refl))
+      (record { is-listed = refl; device-kept = λ x. refl; bytes-kept = λ x. refl; zero-bytes = λ x. refl; zero-value = λ x. refl })
+
+  changed-fine : (s : Shared) (tick : ℕ) → H (2 ∷ 1 ∷ 0 ∷ []) d l (changed s tick d l)
+  unfolding changed
+  changed-fine s tick =
+      let ns : List ℕ = 2 ∷ 1 ∷ 0 ∷ [] in
+      both (H ns d l) (queueReady d l) _ _
+      (both (H ns d l) (goodShared s) _ _ (succeeds-noted ns d l true (eventOf 5 tick noMessage) 0 [] (withShared d s) l refl) (refused ns d l 1 refl))
+      (refused ns d l 2 refl)
+
+  filter-fine : (code mask : ℕ) → H (listed (setFilter code mask)) d l (filterSet code mask d l)
+  unfolding filterSet listed
+  filter-fine code mask = both (H (2 ∷ 0 ∷ []) d l) (good d) _ _ (succeeds (2 ∷ 0 ∷ []) d l _ _ _ _ refl) (refused (2 ∷ 0 ∷ []) d l 2 refl)
+
+  mask-fine : (events : ℕ) → H (listed (setEventMask events)) d l (eventMaskSet events d l)
+  unfolding eventMaskSet listed
+  mask-fine events =
+      let ns : List ℕ = 2 ∷ 1 ∷ 0 ∷ [] in
+      both (H ns d l) (good d) _ _ (both (H ns d l) (ltb events 4096) _ _ (succeeds ns d l _ _ _ _ refl) (refused ns d l 1 refl)) (refused ns d l 2 refl)
+
+  through-fine : (format : ℕ) → H (listed (identifiersThrough format)) d l (through format d l)
+  unfolding through listed
+  through-fine format =
+      let ns : List ℕ = 2 ∷ 13 ∷ 0 ∷ [] in
+      both (H ns d l) (good d) _ _ (both (H ns d l) (isFormat format) _ _ (succeeds ns d l _ _ _ _ refl) (refused ns d l 13 refl)) (refused ns d l 2 refl)
+
+  put-fine : (ns : List ℕ) (m : Message) (v : ℕ) → among 0 ns ≡ true → among 5 ns ≡ true → among 2 ns ≡ true → H ns d l (put m v d l)
+  unfolding put sending
+  put-fine ns m v z f t =
+      by-number ns d l (sending (d .send) m (l .send) .number) _
+      (both (λ (g : Sending). Other ns (g .number)) (Outbox.usable (d .send) (l .send)) _ _
+      (both (λ (g : Sending). Other ns (g .number)) (ltb (d .send .ring .count) (d .send .ring .capacity)) _ _ (λ e. z) (λ e. f)) (λ e. t))
+      (λ e. succeeds ns d l _ _ _ _ z)
+
+  send-fine : (m : Message) → H (listed (send m)) d l (sent m d l)
+  unfolding sent listed
+  send-fine m =
+      let ns : List ℕ = 2 ∷ 13 ∷ 8 ∷ 9 ∷ 10 ∷ 5 ∷ 0 ∷ [] in
+      let f = formatOf (d .shared) (m .header .format) in
+      both (H ns d l) (sendReady d l) _ _
+      (both (H ns d l) (isFormat f && modeTakes (d .shared .mode) f) _ _
+      (both (H ns d l) (isBad (rawOf (d .shared .align) f (m .header .id))) _ _ (refused ns d l 8 refl)
+      (both (H ns d l) (leb (m .header .rtr) 1) _ _
+      (both (H ns d l) (leb (m .header .dlc) 15) _ _ (put-fine ns (sentMessage m d) 0 refl refl refl) (refused ns d l 10 refl)) (refused ns d l 9 refl)))
+      (refused ns d l 13 refl))
+      (refused ns d l 2 refl)
+
+  -- a refusal that answers zero bytes
+  refused-bytes : (ns : List ℕ) (n : ℕ) → among n ns ≡ true → H ns d l (ends n 0 (replicate 16 0) d l)
+  refused-bytes ns n h = record { is-listed = h; device-kept = λ x. refl; bytes-kept = λ x. refl; zero-bytes = λ x. refl; zero-value = λ x. refl }
+
+  take-fine : (tick : ℕ) → H (listed (take tick)) d l (taken tick d l)
+  unfolding taken taking listed
+  take-fine tick =
+      let ns : List ℕ = 2 ∷ 5 ∷ 4 ∷ 14 ∷ 0 ∷ [] in
+      let o = taking (d .send) (l .send) in
+      let N : Sent → Type 0 = λ g. among (g .number) ns ≡ true in
+      let h : N o = both N (Outbox.usable (d .send) (l .send)) _ _
+      (both N (d .send .held) _ _ refl (both N (eqb (d .send .ring .count) 0) _ _ refl (both N (isMessage (Outbox.oldest (d .send) (l .send))) _ _ refl refl)))
+      refl in
+      both (H ns d l) (bothReady d l) _ _
+      (both (H ns d l) (eqb (o .number) 0) _ _ (succeeds-noted ns d l (Outbox.raisesAtTake (d .send .tx)) _ 0 _ _ _ refl) (refused-bytes ns (o .number) h))
+      (refused-bytes ns 2 refl)
+
+  done-fine : (tick : ℕ) → H (listed (done tick)) d l (finished tick d l)
+  unfolding finished listed
+  done-fine tick =
+      let ns : List ℕ = 2 ∷ 4 ∷ 0 ∷ [] in
+      both (H ns d l) (queueReady d l) _ _
+      (both (H ns d l) (d .send .held) _ _ (succeeds-noted ns d l (Outbox.raisesAtDone (d .send .tx)) _ 0 [] _ l refl) (refused ns d l 4 refl))
+      (refused ns d l 2 refl)
+
+  abort-fine : (tick : ℕ) → H (listed (abort tick)) d l (aborted tick d l)
+  unfolding aborted listed
+  abort-fine tick =
+      both (H (2 ∷ 0 ∷ []) d l) (queueReady d l) _ _ (succeeds-noted (2 ∷ 0 ∷ []) d l (d .send .held) _ _ [] _ l refl) (refused (2 ∷ 0 ∷ []) d l 2 refl)
+
+  -- a line is printed, or its first refusal answered; the Align of a good device is in range
+  print-fine : (ns : List ℕ) (n : ℕ) (line : List ℕ) → among 0 ns ≡ true → among 2 ns ≡ true → (d .shared .align ≤ 3 → Other ns n) → H ns d l (linePrinted n line d l)
+  unfolding linePrinted
+  print-fine ns n line z t h =
+      split (H ns d l) (good d) _ _ (λ g. by-number ns d l n _ (h (align-in d g)) (λ e. succeeds ns d l _ _ _ _ z)) (λ g. refused ns d l 2 t)
+
+  -- the two refusals that stand before a record's own: room, then the Align
+  room-align : (ns : List ℕ) (align room need n : ℕ) → among 3 ns ≡ true → Other ns n → align ≤ 3 → Other ns (pick (ltb room need) 3 (pick (leb align 3) n 1))
+  room-align ns align room need n three h a = both (Other ns) (ltb room need) _ _ (λ e. three) (rw (le-leb align 3 a) h)
+
+  message-record-fine : (s : List ℕ) → H (listed (printMessageRecord s)) d l (messageRecordPrinted s d l)
+  unfolding messageRecordRefusal listed
+  message-record-fine s =
+      let ns : List ℕ = 2 ∷ 3 ∷ 14 ∷ 0 ∷ [] in
+      print-fine ns _ _ refl refl
+      (room-align ns (d .shared .align) (length (l .out)) 37 (pick (isMessage s) 0 14) refl (both (Other ns) (isMessage s) 0 14 (λ e. refl) (λ e. refl)))
+
+  event-record-fine : (s : List ℕ) → H (listed (printEventRecord s)) d l (eventRecordPrinted s d l)
+  unfolding eventRecordRefusal listed
+  event-record-fine s =
+      let ns : List ℕ = 2 ∷ 3 ∷ 14 ∷ 0 ∷ [] in
+      print-fine ns _ _ refl refl
+      (room-align ns (d .shared .align) (length (l .out)) 80 (pick (isEvent s) 0 14) refl (both (Other ns) (isEvent s) 0 14 (λ e. refl) (λ e. refl)))
+
+  message-fine : (m : Message) → H (listed (printMessage m)) d l (messagePrinted m d l)
+  unfolding messageRefusal listed
+  message-fine m =
+      let ns : List ℕ = 2 ∷ 3 ∷ 13 ∷ 8 ∷ 9 ∷ 10 ∷ 0 ∷ [] in
+      print-fine ns _ _ refl refl
+      (room-align ns (d .shared .align) (length (l .out)) 37 (headerRefusal (m .header)) refl
+      (header-number (Other ns) (m .header) (λ e. refl) (λ e. refl) (λ e. refl) (λ e. refl) (λ e. refl)))
+
+  -- a look that is refused hands back an empty part
+  look-fine : (p : ℕ) → H (listed (look p)) d l (step (look p) d l)
+  unfolding step listed lookSaid lookNumber looked isRefusal
+  look-fine p = by (good d) (usable (d .receive) (l .queue)) (ltb p (d .receive .ring .count)) refl refl refl
+    where
+      by : (a b c : Bool) → good d ≡ a → usable (d .receive) (l .queue) ≡ b → ltb p (d .receive .ring .count) ≡ c → H (2 ∷ 4 ∷ 0 ∷ []) d l (step (look p) d l)
+      by true true true x y z = rw (x, y, z) (succeeds (2 ∷ 4 ∷ 0 ∷ []) d l _ _ _ _ refl)
+      by true true false x y z = rw (x, y, z) (refused (2 ∷ 4 ∷ 0 ∷ []) d l 4 refl)
+      by true false c x y z = rw (x, y) (refused (2 ∷ 4 ∷ 0 ∷ []) d l 2 refl)
+      by false b c x y z = rw x (refused (2 ∷ 4 ∷ 0 ∷ []) d l 2 refl)
+
+  -- a text send: beside a refusal it answers the bytes used
+  abbrev textNumbers : List ℕ
+  textNumbers = 2 ∷ 6 ∷ 7 ∷ 8 ∷ 9 ∷ 10 ∷ 11 ∷ 12 ∷ 5 ∷ 0 ∷ []
+
+  abbrev T : Outcome → Type 0
+  T o = Harmless textNumbers (λ v. Unit {0}) d l o
+
+  weaker : (o : Outcome) → H textNumbers d l o → T o
+  weaker o h = record {
+    is-listed = h .is-listed;
+    device-kept = h .device-kept;
+    bytes-kept = h .bytes-kept;
+    zero-bytes = h .zero-bytes;
+    zero-value = λ e. tt;
+  }
+
+  refused-text : (n used : ℕ) → among n textNumbers ≡ true → T (ends n used [] d l)
+  refused-text n used h = record { is-listed = h; device-kept = λ x. refl; bytes-kept = λ x. refl; zero-bytes = λ x. refl; zero-value = λ x. tt }
+
+  send-text-fine : (text : List ℕ) → T (textSent text d l)
+  unfolding textSent
+  send-text-fine text =
+      both T (sendReady d l) _ _
+      (read-is (λ s. T (putSaid s d l)) (d .shared .align) (formatOf (d .shared) (d .shared .format)) text (refused-text 6 0 refl)
+      (λ n h. refused-text n _ (wider n h)) (λ f. weaker _ (put-fine textNumbers _ _ refl refl refl)))
+      (refused-text 2 0 refl)
+    where
+      wider : (n : ℕ) → among n (7 ∷ 8 ∷ 9 ∷ 10 ∷ 11 ∷ 12 ∷ []) ≡ true → among n textNumbers ≡ true
+      wider n h = by (eqb n 2) (eqb n 6) (eqb n 7) (eqb n 8) (eqb n 9) (eqb n 10) (eqb n 11) (eqb n 12) (among n (5 ∷ 0 ∷ [])) h
+        where
+          by : (a b c d e f g i j : Bool) → (c || (d || (e || (f || (g || (i || false)))))) ≡ true → (a || (b || (c || (d || (e || (f || (g || (i || j)))))))) ≡ true
+          by true b c d e f g i j x = refl
+          by false true c d e f g i j x = refl
+          by false false true d e f g i j x = refl
+          by false false false true e f g i j x = refl
+          by false false false false true f g i j x = refl
+          by false false false false false true g i j x = refl
+          by false false false false false false true i j x = refl
+          by false false false false false false false true j x = refl
+          by false false false false false false false false j x = absurd (apart (sym x))
+
+-- ---- demand 1
+
+-- every call on any device, with any tables and buffers: its number is one of those listed for it, and a refusal changes nothing and stands beside zeros
+pub harmless : (x : Call) (d : Device) (l : Lent) → Harmless (listed x) (beside x) d l (step x d l)
+unfolding step listed beside
+harmless (raise code tick m) d l = raise-fine d l code tick m
+harmless readText d l = text-fine d l
+harmless readRecord d l = record-fine d l
+harmless (look p) d l = look-fine d l p
+harmless (setMode mode tick) d l = changed-fine d l _ tick
+harmless (setFormat format tick) d l = changed-fine d l _ tick
+harmless (setFilter code mask) d l = filter-fine d l code mask
+harmless (setEventMask mask) d l = mask-fine d l mask
+harmless (send m) d l = send-fine d l m
+harmless (sendText text) d l = send-text-fine d l text
+harmless (take tick) d l = take-fine d l tick
+harmless (done tick) d l = done-fine d l tick
+harmless (abort tick) d l = abort-fine d l tick
+harmless (printMessageRecord s) d l = message-record-fine d l s
+harmless (printEventRecord s) d l = event-record-fine d l s
+harmless (printMessage m) d l = message-fine d l m
+harmless (identifiersThrough format) d l = through-fine d l format
+
+-- opening: 1, 2 or 0; a refusal answers the device of zeros and writes no table byte
+pub open-harmless : (s : Settings) (l : Lent) → Harmless (1 ∷ 2 ∷ 0 ∷ []) (λ v. v ≡ 0) noDevice l (opened s l)
+unfolding opened
+open-harmless s l =
+    let ns : List ℕ = 1 ∷ 2 ∷ 0 ∷ [] in
+    both (H ns noDevice l) (good (fresh s)) _ _
+    (both (H ns noDevice l) (queueFits (fresh s .receive) (length (l .queue)) && Outbox.sendFits (fresh s .send) (length (l .send))) _ _
+    (succeeds ns noDevice l 0 [] (fresh s) l refl) (refused ns noDevice l 2 refl))
+    (refused ns noDevice l 1 refl)
