@@ -1,4 +1,6 @@
+pub mod Among
 pub mod Bools
+pub mod Choices
 pub mod Lists
 pub mod Numbers
 pub mod RingFacts

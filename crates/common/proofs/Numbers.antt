@@ -5,7 +5,7 @@ use mathlib.Core.Bool.{Bool, true, false, _&&_}
 use Prim.Native.Nat.{ℕ, zero, suc, _+_, _-_, _*_, _/_, _%_, _^_, _<_}
 use native.Mathlib.Nat.{pow-succ', pow-zero, mod-one, mod-lt, mod-eq-of-lt, div-add-mod, mul-assoc, add-mul-mod-self-left}
 use native.Mathlib.Omega.{arith}
-use lib.ListN.{length, take, drop, replicate}
+use lib.ListN.{length, getD, take, drop, replicate}
 use lib.Dec.{eqb, ltb}
 use borrow.Author.Tests.{eq-eqb, ne-eqb, eqb-true, eqb-false, ltb-true, ltb-false, lt-ltb, le-ltb}
 use Rattle.common.specs.Numbers.{Bytes, bytesOf, numberOf, allZero}
@@ -93,3 +93,36 @@ zeros-are [] h = refl
 zeros-are (b ∷ bs) h =
     let p : b ≡ 0 = eqb-true b 0 (and-left (eqb b 0) (allZero bs) h) in
     ap (λ (y : ℕ). y ∷ bs) p ∙ ap (λ (k : List ℕ). 0 ∷ k) (zeros-are bs (and-right (eqb b 0) (allZero bs) h))
+
+-- zeros are zero
+pub zeros-zero : (n : ℕ) → allZero (replicate n 0) ≡ true
+zeros-zero zero = refl
+zeros-zero (suc n) = zeros-zero n
+
+-- ---- lists of bytes
+
+pub zeros-bytes : (n : ℕ) → Bytes (replicate n 0)
+zeros-bytes zero i = omega arith
+zeros-bytes (suc n) zero = omega arith
+zeros-bytes (suc n) (suc i) = zeros-bytes n i
+
+pub bytes-are : (w n : ℕ) → Bytes (bytesOf w n)
+bytes-are zero n i = omega arith
+bytes-are (suc w) n zero = omega arith
+bytes-are (suc w) n (suc i) = bytes-are w (n / 256) i
+
+pub bytes-append : (bs cs : List ℕ) → Bytes bs → Bytes cs → Bytes (bs ++ cs)
+bytes-append [] cs g h i = h i
+bytes-append (b ∷ bs) cs g h zero = g 0
+bytes-append (b ∷ bs) cs g h (suc i) = bytes-append bs cs (λ j. g (suc j)) h i
+
+pub bytes-take : (n : ℕ) (bs : List ℕ) → Bytes bs → Bytes (take n bs)
+bytes-take zero bs g i = omega arith
+bytes-take (suc n) [] g i = omega arith
+bytes-take (suc n) (b ∷ bs) g zero = g 0
+bytes-take (suc n) (b ∷ bs) g (suc i) = bytes-take n bs (λ j. g (suc j)) i
+
+pub bytes-drop : (n : ℕ) (bs : List ℕ) → Bytes bs → Bytes (drop n bs)
+bytes-drop zero bs g = g
+bytes-drop (suc n) [] g = λ i. omega arith
+bytes-drop (suc n) (b ∷ bs) g = bytes-drop n bs (λ j. g (suc j))

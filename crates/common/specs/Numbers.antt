@@ -1,6 +1,6 @@
--- Numbers as bytes: "Numbers are stored lowest byte first" (01, "Frames and records").
+-- Numbers as bytes: "Numbers are stored lowest byte first" (01, "Frames and records"); numbers in a list.
 use Prim.Native.Nat.{ℕ, zero, suc, _+_, _*_, _/_, _%_, _<_}
-use mathlib.Core.Bool.{Bool, true, _&&_}
+use mathlib.Core.Bool.{Bool, true, false, _&&_, _||_}
 use mathlib.Core.List.{List, [], _∷_}
 use lib.ListN.{getD}
 use lib.Dec.{eqb}
@@ -23,3 +23,8 @@ numberOf (b ∷ bs) = b + 256 * numberOf bs
 abbrev pub allZero : List ℕ → Bool
 allZero [] = true
 allZero (b ∷ bs) = eqb b 0 && allZero bs
+
+-- a number is in a list
+abbrev pub among : ℕ → List ℕ → Bool
+among n [] = false
+among n (m ∷ ms) = eqb n m || among n ms

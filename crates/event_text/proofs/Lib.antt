@@ -2,4 +2,4 @@ pub mod CodeWords
 pub mod Good
 pub mod Length
 pub mod Printed
-pub mod Sheet
+pub mod Examples

@@ -4,4 +4,3 @@ pub mod Frames
 pub mod EventMask
 pub mod RoundTrip
 pub mod Counting
-pub mod Sheet

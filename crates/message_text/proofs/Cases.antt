@@ -3,20 +3,17 @@ use Prim.Native.Nat.{ℕ, _+_, _≤_}
 use mathlib.Core.Path.{_≡_, refl}
 use mathlib.Core.List.{List, [], _∷_}
 use mathlib.Core.Bool.{Bool, true, false, not, _||_}
-use borrow.Author.Tests.{ltb-false}
+use borrow.Author.Tests.{ltb-false, not-false}
 use lib.Dec.{ltb, eqb}
 use lib.ListN.{length, getD, drop}
+use Rattle.common.specs.Numbers.{among}
 use Rattle.ids.specs.Ids.{rawOf}
 use Rattle.ids.specs.Frames.{carried}
 use Rattle.message_text.specs.Numbers.{numbers, beforeEnd, usedOf}
 use Rattle.message_text.specs.Reading.{isBad, headerOf, allBytes, dataOf, refused, judgedData, judged, readMessage}
 use Rattle.message_text.specs.declared.Said.{Said}
 use Rattle.message_text.specs.declared.Answer.the-variants.{Taken}
-use Rattle.message_text.proofs.Choices.{pick-is}
-
-abbrev among : ℕ → List ℕ → Bool
-among n [] = false
-among n (m ∷ ms) = eqb n m || among n ms
+use Rattle.common.proofs.Choices.{pick-is}
 
 -- the numbers of a text with an end that is refused
 abbrev pub isRefusal : ℕ → Bool
@@ -28,6 +25,7 @@ pub record TakenFacts (align format n : ℕ) (values : List ℕ) : Type 0 where
   pub rtr : getD values 1 0 ≤ 1
   pub dlc : getD values 2 0 ≤ 15
   pub enough : 3 + carried (headerOf align format values) ≤ n
+  pub bytes : allBytes (drop 3 values) ≡ true
 
 -- the message that they make
 abbrev pub takenOf : ℕ → ℕ → List ℕ → ℕ → Said
@@ -47,11 +45,12 @@ judged-is P align format n values used r t =
     (λ dlc. pick-is P (ltb n (3 + carried h)) (λ e. r 7 refl)
     (λ enough. pick-is P (ltb 11 n) (λ e. r 11 refl)
     (λ e. pick-is P (not (allBytes (drop 3 values))) (λ e. r 12 refl)
-    (λ e. t (record {
+    (λ past. t (record {
       good = good;
       rtr = ltb-false 1 (getD values 1 0) rtr;
       dlc = ltb-false 15 (getD values 2 0) dlc;
       enough = ltb-false n (3 + carried h) enough;
+      bytes = not-false (allBytes (drop 3 values)) past;
     }))))))))
 
 -- and holds of what a text says where it holds of refusal 6 too

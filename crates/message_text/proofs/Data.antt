@@ -30,7 +30,7 @@ pub bytes-more : (xs : List ℕ) (k : ℕ) → k < length xs → getD xs k 0 < 2
 unfolding allBytes
 bytes-more xs k h l = rw (here xs k h, lt-ltb (getD xs k 0) 256 l)
 
-byte-at : (xs : List ℕ) (k : ℕ) → allBytes xs ≡ true → getD xs k 0 < 256
+pub byte-at : (xs : List ℕ) (k : ℕ) → allBytes xs ≡ true → getD xs k 0 < 256
 unfolding allBytes
 byte-at [] k e = omega arith
 byte-at (x ∷ xs) zero e = ltb-true x 256 (and-left (ltb x 256) (allBytes xs) e)

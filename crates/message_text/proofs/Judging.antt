@@ -16,7 +16,7 @@ use Rattle.ids.proofs.Frames.{carried-le}
 use Rattle.message_text.specs.Reading.{isBad, headerOf, allBytes, judgedData, judged}
 use Rattle.message_text.specs.Scan.{keptFrom, keptOf}
 use Rattle.message_text.specs.declared.Answer.the-variants.{Taken}
-use Rattle.message_text.proofs.Choices.{by-test, pick-same}
+use Rattle.common.proofs.Choices.{by-test, pick-same}
 use Rattle.message_text.proofs.Ids.{raw-capped}
 use Rattle.message_text.proofs.Data.{padded, padded-one, padded-bytes, padded-take}
 

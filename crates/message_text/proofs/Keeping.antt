@@ -10,7 +10,7 @@ use Rattle.digits.specs.Reading.{byteKind, capped}
 use Rattle.message_text.specs.Numbers.{Place, between, within, ended, grown, isEnd, isDigit, numbersFrom, numbers, beforeEnd}
 use Rattle.message_text.specs.Scan.{keptMore, keptFrom, keptOf, ScanMet}
 use Rattle.message_text.specs.declared.Kept.{Kept}
-use Rattle.message_text.proofs.Choices.{by-test}
+use Rattle.common.proofs.Choices.{by-test}
 use Rattle.message_text.proofs.Ends.{here, before-more}
 
 -- ---- the numbers from a position on

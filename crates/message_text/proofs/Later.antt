@@ -10,7 +10,7 @@ use Rattle.common.specs.Choice.{pick}
 use Rattle.common.proofs.Bools.{apart}
 use Rattle.message_text.specs.Numbers.{Place, between, ended, after, isEnd, isDigit, numbersFrom, numbers, beforeEnd, endRun, usedOf}
 use Rattle.message_text.specs.Reading.{readMessage, refused, numberOf, usedBy}
-use Rattle.message_text.proofs.Choices.{by-test, pick-is, pick-same}
+use Rattle.common.proofs.Choices.{by-test, pick-is, pick-same}
 use Rattle.message_text.proofs.Cases.{isRefusal, judged-is}
 
 before-le : (t : List ℕ) → beforeEnd t ≤ length t

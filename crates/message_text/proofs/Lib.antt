@@ -1,4 +1,3 @@
-pub mod Choices
 pub mod Ends
 pub mod Keeping
 pub mod Ids
@@ -8,7 +7,6 @@ pub mod Cases
 pub mod Later
 pub mod Listed
 pub mod Taken
-pub mod Sheet
 pub mod Length
 pub mod Lines
 pub mod Printed

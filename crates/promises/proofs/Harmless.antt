@@ -7,6 +7,9 @@ use lib.ListN.{length, replicate}
 use lib.Dec.{ltb, leb, eqb}
 use borrow.Author.Tests.{le-leb, eqb-true}
 use Rattle.common.specs.Choice.{pick}
+use Rattle.common.specs.Numbers.{among}
+use Rattle.common.proofs.Among.{among-first, among-last}
+use Rattle.common.proofs.Choices.{pick-is}
 use Rattle.common.proofs.Bools.{apart}
 use Rattle.ids.specs.Ids.{isFormat, idBits, rawOf}
 use Rattle.ids.specs.Filters.{modeTakes}
@@ -37,16 +40,11 @@ use Rattle.recorder.specs.declared.Shared.{Shared}
 use Rattle.recorder.specs.declared.Settings.{Settings}
 use Rattle.recorder.proofs.Ready.{align-in}
 use Rattle.promises.specs.Calls.{Call, raise, readText, readRecord, look, setMode, setFormat, setFilter, setEventMask, send, sendText, take, done, abort}
-use Rattle.promises.specs.Calls.{printMessageRecord, printEventRecord, printMessage, identifiersThrough, step, among, listed, isRefusal, beside, Harmless}
+use Rattle.promises.specs.Calls.{printMessageRecord, printEventRecord, printMessage, identifiersThrough, step, listed, isRefusal, beside, Harmless}
 
--- a choice has what both its arms have, each under its test
-split : {A : Type 0} (P : A → Type 0) (b : Bool) (x y : A) → (b ≡ true → P x) → (b ≡ false → P y) → P (pick b x y)
-split P true x y p q = p refl
-split P false x y p q = q refl
-
--- the same where the tests do not matter
-both : {A : Type 0} (P : A → Type 0) (b : Bool) (x y : A) → P x → P y → P (pick b x y)
-both P b x y p q = split P b x y (λ e. p) (λ e. q)
+-- a choice has what both its arms have
+pub both : {A : Type 0} (P : A → Type 0) (c : Bool) (x y : A) → P x → P y → P (pick c x y)
+both P c x y p q = pick-is P c (λ e. p) (λ e. q)
 
 module _ (ns : List ℕ) (d : Device) (l : Lent) where
   abbrev H : Outcome → Type 0
@@ -76,7 +74,7 @@ module _ (ns : List ℕ) (d : Device) (l : Lent) where
   succeeds-noted false e v bs f m h = succeeds v bs f m h
 
 -- a first refusal that is not 0 is one of a header's
-header-number : (P : ℕ → Type 0) (h : Header) → P 0 → P 13 → P 8 → P 9 → P 10 → P (headerRefusal h)
+pub header-number : (P : ℕ → Type 0) (h : Header) → P 0 → P 13 → P 8 → P 9 → P 10 → P (headerRefusal h)
 unfolding headerRefusal
 header-number P h p0 p13 p8 p9 p10 =
     both P (isFormat (h .format)) _ _
@@ -84,13 +82,21 @@ header-number P h p0 p13 p8 p9 p10 =
     p13
 
 -- a test of a number that is not 0
-abbrev Other : List ℕ → ℕ → Type 0
+abbrev pub Other : List ℕ → ℕ → Type 0
 Other ns n = eqb n 0 ≡ false → among n ns ≡ true
+
+-- the two refusals that stand before a record's own: room, then the Align
+pub room-align : (ns : List ℕ) (align room need n : ℕ) → among 3 ns ≡ true → Other ns n → align ≤ 3 → Other ns (pick (ltb room need) 3 (pick (leb align 3) n 1))
+room-align ns align room need n three h a = both (Other ns) (ltb room need) _ _ (λ e. three) (rw (le-leb align 3 a) h)
 
 module _ (ns : List ℕ) (d : Device) (l : Lent) where
   -- a number that is 0 succeeds, any other is refused
   by-number : (n : ℕ) (o : Outcome) → Other ns n → (n ≡ 0 → H ns d l o) → H ns d l (pick (eqb n 0) o (refuses n d l))
-  by-number n o h z = split (H ns d l) (eqb n 0) o (refuses n d l) (λ e. z (eqb-true n 0 e)) (λ e. refused ns d l n (h e))
+  by-number n o h z = pick-is (H ns d l) (eqb n 0) (λ e. z (eqb-true n 0 e)) (λ e. refused ns d l n (h e))
+
+-- the refusals of a text with an end
+pub text-among : (n : ℕ) → among n (7 ∷ 8 ∷ 9 ∷ 10 ∷ 11 ∷ 12 ∷ []) ≡ true → among n (7 ∷ 8 ∷ 9 ∷ 10 ∷ 11 ∷ 12 ∷ 5 ∷ 0 ∷ []) ≡ true
+text-among n h = among-first n (7 ∷ 8 ∷ 9 ∷ 10 ∷ 11 ∷ 12 ∷ []) (5 ∷ 0 ∷ []) h
 
 -- ---- what an event that is raised meets
 
@@ -104,7 +110,7 @@ raising-met : (mode align : ℕ) (r : Receive) (e : Event) (t : List ℕ) → Me
 unfolding raising queued verdict isRefusal
 raising-met mode align r e t =
     both (Met r t) (usable r t) _ _
-    (split (Met r t) (eqb (verdict mode align r e) 0) _ _
+    (pick-is (Met r t) (eqb (verdict mode align r e) 0)
     (λ z. both (Met r t) (ltb (r .ring .count) (r .ring .capacity)) _ _
     (record { number-in = refl; receive-kept = λ x. absurd (apart (sym x)); table-kept = λ x. absurd (apart (sym x)) })
     (record { number-in = refl; receive-kept = λ x. absurd (apart (sym x)); table-kept = λ x. absurd (apart (sym x)) }))
@@ -148,15 +154,11 @@ module _ (d : Device) (l : Lent) where
           }
         where
           wider : (n : ℕ) → among n (2 ∷ 100 ∷ 101 ∷ 102 ∷ 103 ∷ []) ≡ true → among n raiseNumbers ≡ true
-          wider n h = by (eqb n 2) (eqb n 13) (eqb n 8) (eqb n 9) (eqb n 10) (among n (100 ∷ 101 ∷ 102 ∷ 103 ∷ [])) h
+          wider n h = by (eqb n 2) (among n (100 ∷ 101 ∷ 102 ∷ 103 ∷ [])) h (among-last n (13 ∷ 8 ∷ 9 ∷ 10 ∷ []) (100 ∷ 101 ∷ 102 ∷ 103 ∷ []))
             where
-              by : (a b c d e f : Bool) → (a || f) ≡ true → (a || (b || (c || (d || (e || f))))) ≡ true
-              by true b c d e f x = refl
-              by false true c d e f x = refl
-              by false false true d e f x = refl
-              by false false false true e f x = refl
-              by false false false false true f x = refl
-              by false false false false false f x = x
+              by : {c : Bool} (a b : Bool) → (a || b) ≡ true → (b ≡ true → c ≡ true) → (a || c) ≡ true
+              by true b h f = refl
+              by false b h f = f h
 
   text-fine : H (listed readText) d l (textRead d l)
   unfolding textRead listed
@@ -265,11 +267,7 @@ module _ (d : Device) (l : Lent) where
   print-fine : (ns : List ℕ) (n : ℕ) (line : List ℕ) → among 0 ns ≡ true → among 2 ns ≡ true → (d .shared .align ≤ 3 → Other ns n) → H ns d l (linePrinted n line d l)
   unfolding linePrinted
   print-fine ns n line z t h =
-      split (H ns d l) (good d) _ _ (λ g. by-number ns d l n _ (h (align-in d g)) (λ e. succeeds ns d l _ _ _ _ z)) (λ g. refused ns d l 2 t)
-
-  -- the two refusals that stand before a record's own: room, then the Align
-  room-align : (ns : List ℕ) (align room need n : ℕ) → among 3 ns ≡ true → Other ns n → align ≤ 3 → Other ns (pick (ltb room need) 3 (pick (leb align 3) n 1))
-  room-align ns align room need n three h a = both (Other ns) (ltb room need) _ _ (λ e. three) (rw (le-leb align 3 a) h)
+      pick-is (H ns d l) (good d) (λ g. by-number ns d l n _ (h (align-in d g)) (λ e. succeeds ns d l _ _ _ _ z)) (λ g. refused ns d l 2 t)
 
   message-record-fine : (s : List ℕ) → H (listed (printMessageRecord s)) d l (messageRecordPrinted s d l)
   unfolding messageRecordRefusal listed
@@ -328,22 +326,8 @@ module _ (d : Device) (l : Lent) where
   send-text-fine text =
       both T (sendReady d l) _ _
       (read-is (λ s. T (putSaid s d l)) (d .shared .align) (formatOf (d .shared) (d .shared .format)) text (refused-text 6 0 refl)
-      (λ n h. refused-text n _ (wider n h)) (λ f. weaker _ (put-fine textNumbers _ _ refl refl refl)))
+      (λ n h. refused-text n _ (among-last n (2 ∷ 6 ∷ []) (7 ∷ 8 ∷ 9 ∷ 10 ∷ 11 ∷ 12 ∷ 5 ∷ 0 ∷ []) (text-among n h))) (λ f. weaker _ (put-fine textNumbers _ _ refl refl refl)))
       (refused-text 2 0 refl)
-    where
-      wider : (n : ℕ) → among n (7 ∷ 8 ∷ 9 ∷ 10 ∷ 11 ∷ 12 ∷ []) ≡ true → among n textNumbers ≡ true
-      wider n h = by (eqb n 2) (eqb n 6) (eqb n 7) (eqb n 8) (eqb n 9) (eqb n 10) (eqb n 11) (eqb n 12) (among n (5 ∷ 0 ∷ [])) h
-        where
-          by : (a b c d e f g i j : Bool) → (c || (d || (e || (f || (g || (i || false)))))) ≡ true → (a || (b || (c || (d || (e || (f || (g || (i || j)))))))) ≡ true
-          by true b c d e f g i j x = refl
-          by false true c d e f g i j x = refl
-          by false false true d e f g i j x = refl
-          by false false false true e f g i j x = refl
-          by false false false false true f g i j x = refl
-          by false false false false false true g i j x = refl
-          by false false false false false false true i j x = refl
-          by false false false false false false false true j x = refl
-          by false false false false false false false false j x = absurd (apart (sym x))
 
 -- ---- demand 1
 

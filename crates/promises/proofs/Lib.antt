@@ -1,1 +1,16 @@
 pub mod Harmless
+pub mod Rings
+pub mod Events
+pub mod Arriving
+pub mod Sides
+pub mod Steps
+pub mod ReceiveSteps
+pub mod SendSteps
+pub mod Doing
+pub mod Logs
+pub mod Recording
+pub mod Sum
+pub mod Larger
+pub mod Mail
+pub mod ReadsBack
+pub mod Sheet

@@ -1,11 +1,11 @@
 -- Every public call with all its arguments, and its outcome: the very definitions that the contracts of the code cite.
 use Prim.Native.Nat.{ℕ}
 use mathlib.Core.Path.{_≡_}
-use mathlib.Core.Bool.{Bool, true, false, _&&_, _||_}
+use mathlib.Core.Bool.{Bool, true, _&&_}
 use mathlib.Core.List.{List, [], _∷_}
-use lib.Dec.{leb, eqb}
+use lib.Dec.{leb}
 use Rattle.common.specs.Choice.{pick}
-use Rattle.common.specs.Numbers.{allZero}
+use Rattle.common.specs.Numbers.{allZero, among}
 use Rattle.records.specs.declared.Message.{Message}
 use Rattle.queue.specs.Queue.{looked}
 use Rattle.recorder.specs.State.{good}
@@ -55,11 +55,6 @@ step (printEventRecord s) d l = eventRecordPrinted s d l
 step (printMessage m) d l = messagePrinted m d l
 step (identifiersThrough format) d l = through format d l
 
--- a number is in a list
-abbrev pub among : ℕ → List ℕ → Bool
-among n [] = false
-among n (m ∷ ms) = eqb n m || among n ms
-
 -- the numbers that the paper lists for a call: its refusals in their order, then its answers
 unfoldable pub listed : Call → List ℕ
 listed (raise code tick m) = 2 ∷ 13 ∷ 8 ∷ 9 ∷ 10 ∷ 100 ∷ 101 ∷ 102 ∷ 103 ∷ []
@@ -79,6 +74,26 @@ listed (printMessageRecord s) = 2 ∷ 3 ∷ 14 ∷ 0 ∷ []
 listed (printEventRecord s) = 2 ∷ 3 ∷ 14 ∷ 0 ∷ []
 listed (printMessage m) = 2 ∷ 3 ∷ 13 ∷ 8 ∷ 9 ∷ 10 ∷ 0 ∷ []
 listed (identifiersThrough format) = 2 ∷ 13 ∷ 0 ∷ []
+
+-- the numbers of a call while only the calls write the tables: no 2, and no 14 of a read or a take
+unfoldable pub usual : Call → List ℕ
+usual (raise code tick m) = 13 ∷ 8 ∷ 9 ∷ 10 ∷ 100 ∷ 101 ∷ 102 ∷ 103 ∷ []
+usual readText = 3 ∷ 4 ∷ 0 ∷ []
+usual readRecord = 4 ∷ 0 ∷ []
+usual (look p) = 4 ∷ 0 ∷ []
+usual (setMode mode tick) = 1 ∷ 0 ∷ []
+usual (setFormat format tick) = 1 ∷ 0 ∷ []
+usual (setFilter code mask) = 0 ∷ []
+usual (setEventMask mask) = 1 ∷ 0 ∷ []
+usual (send m) = 13 ∷ 8 ∷ 9 ∷ 10 ∷ 5 ∷ 0 ∷ []
+usual (sendText text) = 6 ∷ 7 ∷ 8 ∷ 9 ∷ 10 ∷ 11 ∷ 12 ∷ 5 ∷ 0 ∷ []
+usual (take tick) = 5 ∷ 4 ∷ 0 ∷ []
+usual (done tick) = 4 ∷ 0 ∷ []
+usual (abort tick) = 0 ∷ []
+usual (printMessageRecord s) = 3 ∷ 14 ∷ 0 ∷ []
+usual (printEventRecord s) = 3 ∷ 14 ∷ 0 ∷ []
+usual (printMessage m) = 3 ∷ 13 ∷ 8 ∷ 9 ∷ 10 ∷ 0 ∷ []
+usual (identifiersThrough format) = 13 ∷ 0 ∷ []
 
 -- the refusals are the numbers 1 to 14
 unfoldable pub isRefusal : ℕ → Bool

@@ -1,4 +1,2 @@
 pub mod Laws
-pub mod Sheet
 pub mod Unique
-pub mod Meaning

@@ -13,7 +13,7 @@ use Rattle.common.specs.Choice.{pick}
 use Rattle.common.specs.Numbers.{Bytes, bytesOf, numberOf, allZero}
 use Rattle.common.proofs.Bools.{and-left}
 use Rattle.common.proofs.Lists.{reads, reads-slice, reads-all}
-use Rattle.common.proofs.Numbers.{number-back, bytes-back}
+use Rattle.common.proofs.Numbers.{zeros-zero, number-back, bytes-back}
 use Rattle.ids.specs.Frames.{headerRefusal, carried}
 use Rattle.ids.proofs.Frames.{carried-le, good-header, good-id, good-format}
 use Rattle.records.specs.Messages.{stored, goodMessage, messageBytes, messageIn, isMessage, noMessage, judgeMessage}
@@ -31,10 +31,6 @@ reads-bytes s f (suc n) g (suc i) = reads-bytes s (suc f) n g i
 -- the bytes of the number that four bytes stand for
 pub number-bytes : (s : List ℕ) (f : ℕ) → Bytes s → f + 4 ≤ length s → bytesOf 4 (numberOf (slice f (f + 4) s)) ≡ reads s f 4
 number-bytes s f g h = rw (← reads-slice s f 4 h) (bytes-back (reads s f 4) (reads-bytes s f 4 g))
-
-zeros-zero : (n : ℕ) → allZero (replicate n 0) ≡ true
-zeros-zero zero = refl
-zeros-zero (suc n) = zeros-zero n
 
 -- ---- what is stored
 
@@ -61,11 +57,11 @@ stored-good m r h =
 
 -- ---- what is written is read back
 
-good-refusal : (m : Message) → goodMessage m ≡ true → headerRefusal (m .header) ≡ 0
+pub good-refusal : (m : Message) → goodMessage m ≡ true → headerRefusal (m .header) ≡ 0
 unfolding goodMessage
 good-refusal m g = eqb-true (headerRefusal (m .header)) 0 (and-left (eqb (headerRefusal (m .header)) 0) (allZero (drop (carried (m .header)) (m .bytes))) g)
 
-message-in-back : (m : Message) → length (m .bytes) ≡ 8 → headerRefusal (m .header) ≡ 0 → messageIn (messageBytes m) ≡ m
+pub message-in-back : (m : Message) → length (m .bytes) ≡ 8 → headerRefusal (m .header) ≡ 0 → messageIn (messageBytes m) ≡ m
 unfolding messageIn messageBytes
 message-in-back m h r =
     let g = good-header (m .header) r in
