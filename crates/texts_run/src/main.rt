@@ -1,59 +1,22 @@
 // Prints what the two texts say for a stored input, to be compared with the second program: 128 event records of 32 bytes,
 // then message texts one behind the other. The records are printed under each Align; the texts are read under each Align and format.
-use digits::writing;
-use libc::STDOUT_FILENO;
 use message_text::Answer;
 use records::Message;
 
 const RECORDS: usize = 4096;
 
-// Writes the first n bytes of a line.
-fn write_front(line: &[u8], n: usize) {
-    if line.len() < n {
-        return;
-    }
-    io::write_all(STDOUT_FILENO, &line[0..n]);
-}
-
-// Writes a word and a number, and what ends them.
-fn write_number(word: &[u8], n: u32, end: u8) {
-    let mut line = [0u8; 16];
-    let at = writing::put_decimal(&mut line, 0, n);
-    if 16 <= at {
-        return;
-    }
-    line[at] = end;
-    io::write_all(STDOUT_FILENO, word);
-    write_front(&line, at + 1);
-}
-
-fn wide(b: u8) -> u32 {
-    b as u32
-}
-
-// Writes 16 bytes as 32 digits, and LF.
+// Writes a message's 16 bytes as 32 digits.
 fn write_record(m: Message) {
     let mut bytes = [0u8; 16];
     records::messages::write_message(&mut bytes, m);
-    let mut line = [10u8; 33];
-    let mut i: usize = 0;
-    while i < 16 {
-        writing::put_hex(&mut line, 2 * i, wide(bytes[i]), 2);
-        i += 1;
-    }
-    io::write_all(STDOUT_FILENO, &line);
+    show::write_line(show::record_line(bytes));
 }
 
 // Writes a message as it is printed.
 fn write_line(align: u32, m: Message) {
     let mut out = [0u8; 37];
     let p = message_text::printing::print_message(align, m, &mut out);
-    write_front(&out, p.length);
-}
-
-fn write_refusal(number: u32, used: usize) {
-    write_number(b"refused ", number, 32);
-    write_number(b"used ", (used % 65537) as u32, 10);
+    show::write_front(&out, p.length);
 }
 
 // One text: the message that it says and its line, or the refusal; answers the bytes used.
@@ -62,7 +25,8 @@ fn show_text(align: u32, format: u32, text: &[u8]) -> usize {
     let a = said.answer;
     let Answer::Taken(h, used) = a else {
         let used = message_text::reading::used_by(a);
-        write_refusal(message_text::reading::number_of(a), used);
+        let number = message_text::reading::number_of(a);
+        show::write_line(show::refused_line(number, show::counted(used)));
         return used;
     };
     let b = said.bytes;
@@ -94,10 +58,12 @@ fn show_event(align: u32, record: &[u8]) {
     let mut out = [0u8; 80];
     let p = event_text::printing::print_record(align, record, &mut out);
     if p.number != 0 {
-        write_number(b"refused ", p.number, 10);
+        show::write_text(b"refused ");
+        show::write_number(p.number);
+        show::write_text(b"\n");
         return;
     }
-    write_front(&out, p.length);
+    show::write_front(&out, p.length);
 }
 
 fn show_events(align: u32, table: &[u8]) {
@@ -115,7 +81,7 @@ fn main() {
     let mut buffer = io::large_buffer();
     let n = io::read_full(0, &mut buffer);
     if n < RECORDS {
-        io::write_all(STDOUT_FILENO, b"too few records\n");
+        show::write_text(b"too few records\n");
         return;
     }
     if 65536 < n {

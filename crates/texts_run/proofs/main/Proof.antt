@@ -20,11 +20,11 @@ slice-aggregate-read-full c = search needs
 read-full-requires : tie.Need-read-full-requires Inv-loop μ-loop
 read-full-requires c κs = search needs
 
-slice-aggregate-write-all : tie.Need-slice-aggregate-write-all Inv-loop μ-loop
-slice-aggregate-write-all c = search needs
+slice-aggregate-write-text : tie.Need-slice-aggregate-write-text Inv-loop μ-loop
+slice-aggregate-write-text c = search needs
 
-write-all-requires : tie.Need-write-all-requires Inv-loop μ-loop
-write-all-requires c κs = search needs
+write-text-requires : tie.Need-write-text-requires Inv-loop μ-loop
+write-text-requires c κs = search needs
 
 returns : tie.Need-returns Inv-loop μ-loop
 returns c = search needs
@@ -86,8 +86,8 @@ main-spec =
     large-buffer-requires
     slice-aggregate-read-full
     read-full-requires
-    slice-aggregate-write-all
-    write-all-requires
+    slice-aggregate-write-text
+    write-text-requires
     returns
     returns-2
     loop-holds
