@@ -31,7 +31,7 @@ use Rattle.message_text.specs.Printing.{messageRefusal, messageRecordRefusal}
 use Rattle.message_text.proofs.Cases.{read-is}
 use Rattle.event_text.specs.Lines.{eventRecordRefusal}
 use Rattle.recorder.specs.State.{goodShared, good, fresh, noDevice, formatOf, withShared, withReceive}
-use Rattle.recorder.specs.Outcomes.{Lent, Outcome, ends, refuses, queueReady, sendReady, bothReady, noted, notedIf, eventOf, met, withQueue}
+use Rattle.recorder.specs.Outcomes.{Lent, Outcome, ends, refuses, queueReady, sendReady, bothReady, noted, notedIf, eventOf, met, withQueue, isRefusal}
 use Rattle.recorder.specs.Receiving.{opened, changed, filterSet, eventMaskSet, frameRefusal, raised, recordRead, textRead, lookSaid, through}
 use Rattle.recorder.specs.Sending.{put, sentMessage, sent, putSaid, textSent, taken, finished, aborted}
 use Rattle.recorder.specs.Printing.{linePrinted, messageRecordPrinted, eventRecordPrinted, messagePrinted}
@@ -40,7 +40,7 @@ use Rattle.recorder.specs.declared.Shared.{Shared}
 use Rattle.recorder.specs.declared.Settings.{Settings}
 use Rattle.recorder.proofs.Ready.{align-in}
 use Rattle.promises.specs.Calls.{Call, raise, readText, readRecord, look, setMode, setFormat, setFilter, setEventMask, send, sendText, take, done, abort}
-use Rattle.promises.specs.Calls.{printMessageRecord, printEventRecord, printMessage, identifiersThrough, step, listed, isRefusal, beside, Harmless}
+use Rattle.promises.specs.Calls.{printMessageRecord, printEventRecord, printMessage, identifiersThrough, step, listed, beside, Harmless}
 
 -- a choice has what both its arms have
 pub both : {A : Type 0} (P : A → Type 0) (c : Bool) (x y : A) → P x → P y → P (pick c x y)

@@ -1,15 +1,14 @@
 -- Every public call with all its arguments, and its outcome: the very definitions that the contracts of the code cite.
 use Prim.Native.Nat.{ℕ}
 use mathlib.Core.Path.{_≡_}
-use mathlib.Core.Bool.{Bool, true, _&&_}
+use mathlib.Core.Bool.{true}
 use mathlib.Core.List.{List, [], _∷_}
-use lib.Dec.{leb}
 use Rattle.common.specs.Choice.{pick}
 use Rattle.common.specs.Numbers.{allZero, among}
 use Rattle.records.specs.declared.Message.{Message}
 use Rattle.queue.specs.Queue.{looked}
 use Rattle.recorder.specs.State.{good}
-use Rattle.recorder.specs.Outcomes.{Lent, Outcome, ends}
+use Rattle.recorder.specs.Outcomes.{Lent, Outcome, ends, isRefusal}
 use Rattle.recorder.specs.Receiving.{modeSet, formatSet, filterSet, eventMaskSet, raised, recordRead, textRead, lookSaid, through}
 use Rattle.recorder.specs.Sending.{sent, textSent, taken, finished, aborted}
 use Rattle.recorder.specs.Printing.{messageRecordPrinted, eventRecordPrinted, messagePrinted}
@@ -94,10 +93,6 @@ usual (printMessageRecord s) = 3 ∷ 14 ∷ 0 ∷ []
 usual (printEventRecord s) = 3 ∷ 14 ∷ 0 ∷ []
 usual (printMessage m) = 3 ∷ 13 ∷ 8 ∷ 9 ∷ 10 ∷ 0 ∷ []
 usual (identifiersThrough format) = 13 ∷ 0 ∷ []
-
--- the refusals are the numbers 1 to 14
-unfoldable pub isRefusal : ℕ → Bool
-isRefusal n = leb 1 n && leb n 14
 
 -- the value beside a refusal is 0; a refused text still answers the bytes used
 unfoldable pub beside : Call → ℕ → Type 0

@@ -4,7 +4,7 @@ use mathlib.Core.Path.{_≡_}
 use mathlib.Core.Bool.{Bool, _&&_}
 use mathlib.Core.List.{List, []}
 use lib.ListN.{length, replicate}
-use lib.Dec.{eqb}
+use lib.Dec.{leb}
 use Rattle.common.specs.Choice.{pick}
 use Rattle.records.specs.Messages.{stored}
 use Rattle.records.specs.Events.{holdsFrame, kindOf}
@@ -45,6 +45,10 @@ ends n v b d l = record { number = n; value = v; bytes = b; device = d; lent = l
 -- a refusal returns its number and zero values; state and bytes stay
 abbrev pub refuses : ℕ → Device → Lent → Outcome
 refuses n d l = ends n 0 [] d l
+
+-- the refusals are the numbers 1 to 14
+unfoldable pub isRefusal : ℕ → Bool
+isRefusal n = leb 1 n && leb n 14
 
 -- the tables that a call is lent are as long as their capacities need, and the state is possible: else refusal 2
 abbrev pub queueReady : Device → Lent → Bool

@@ -23,7 +23,7 @@ use Rattle.records.proofs.Laws.{message-tests}
 
 -- ---- bytes read one by one
 
-reads-bytes : (s : List ℕ) (f n : ℕ) → Bytes s → Bytes (reads s f n)
+pub reads-bytes : (s : List ℕ) (f n : ℕ) → Bytes s → Bytes (reads s f n)
 reads-bytes s f zero g i = omega arith
 reads-bytes s f (suc n) g zero = g f
 reads-bytes s f (suc n) g (suc i) = reads-bytes s (suc f) n g i

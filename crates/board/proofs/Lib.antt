@@ -1,0 +1,5 @@
+pub mod Laws
+pub mod Ways
+pub mod State
+pub mod Unique
+pub mod Harmless

@@ -1,0 +1,24 @@
+use Rattle.board.proofs.Laws.{kept-old, kept-new}
+use mathlib.Core.Path.{refl, _∙_}
+use borrow.Author.Needs.{needs}
+use Rattle.board.proofs.kept.leave.Statement.{statement}
+use Rattle.board.proofs.kept.leave.Tie as tie
+
+is-refusal-requires : tie.Need-is-refusal-requires
+is-refusal-requires c κs = search needs
+
+returns : tie.Need-returns
+returns c = record { number-is = refl; state-bytes = kept-old _ _ _ (c .before .is-refusal .ensures) (c .if1 .taken) }
+
+write-state-requires : tie.Need-write-state-requires
+write-state-requires c κs = search needs
+
+same-length : tie.Need-same-length
+same-length c = search needs
+
+returns-2 : tie.Need-returns-2
+returns-2 c = record { number-is = refl; state-bytes = c .before .before .write-state .ensures ∙ kept-new _ _ _ (c .before .before .before .before .before .is-refusal .ensures) (c .before .before .before .before .if1 .left) }
+
+pub leave-spec : {M : Type 1} → statement M
+leave-spec =
+    tie.close (tie.spec is-refusal-requires returns write-state-requires same-length returns-2)

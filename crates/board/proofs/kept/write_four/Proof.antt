@@ -1,0 +1,46 @@
+use Rattle.board.proofs.Laws.{four-written}
+use denote.Ref.{now}
+use borrow.Author.Needs.{needs}
+use Rattle.board.proofs.kept.write_four.Statement.{statement}
+use Rattle.board.proofs.kept.write_four.Tie as tie
+
+write-word-requires : tie.Need-write-word-requires
+write-word-requires c κs = search needs
+
+add-write-word : tie.Need-add-write-word
+add-write-word c = search needs
+
+write-word-requires-2 : tie.Need-write-word-requires-2
+write-word-requires-2 c κs = search needs
+
+add-write-word-2 : tie.Need-add-write-word-2
+add-write-word-2 c = search needs
+
+write-word-requires-3 : tie.Need-write-word-requires-3
+write-word-requires-3 c κs = search needs
+
+add-write-word-3 : tie.Need-add-write-word-3
+add-write-word-3 c = search needs
+
+write-word-requires-4 : tie.Need-write-word-requires-4
+write-word-requires-4 c κs = search needs
+
+same-length : tie.Need-same-length
+same-length c = search needs
+
+returns : tie.Need-returns
+returns c = let a = c .before .before .before .before .before .before .before .before .before .before .before .before .before .before .before .before .before .args in four-written (a .a) (a .b) (a .c) (a .d) (a .at) (now (a .s)) (c .before .before .before .before .before .before .before .before .before .before .before .before .before .before .write-word .ensures) (c .before .before .before .before .before .before .before .before .before .before .write-word2 .ensures) (c .before .before .before .before .before .before .write-word3 .ensures) (c .before .before .write-word4 .ensures)
+
+pub write-four-spec : {M : Type 1} → statement M
+write-four-spec =
+    tie.close
+    (tie.spec
+    write-word-requires
+    add-write-word
+    write-word-requires-2
+    add-write-word-2
+    write-word-requires-3
+    add-write-word-3
+    write-word-requires-4
+    same-length
+    returns)

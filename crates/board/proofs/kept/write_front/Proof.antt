@@ -1,0 +1,25 @@
+use Rattle.board.proofs.Laws.{front-written}
+use denote.Ref.{now}
+use borrow.Author.Needs.{needs}
+use Rattle.board.proofs.kept.write_front.Statement.{statement}
+use Rattle.board.proofs.kept.write_front.Tie as tie
+
+write-four-requires : tie.Need-write-four-requires
+write-four-requires c κs = search needs
+
+write-four-requires-2 : tie.Need-write-four-requires-2
+write-four-requires-2 c κs = search needs
+
+write-four-requires-3 : tie.Need-write-four-requires-3
+write-four-requires-3 c κs = search needs
+
+same-length : tie.Need-same-length
+same-length c = search needs
+
+returns : tie.Need-returns
+returns c = let a = c .before .before .before .before .before .before .before .before .before .before .before .before .before .before .before .args in front-written (a .shared) (a .receive) (a .tx) (now (a .state)) (c .before .before .before .before .before .before .before .before .before .before .write-four .ensures) (c .before .before .before .before .before .before .write-four2 .ensures) (c .before .before .write-four3 .ensures)
+
+pub write-front-spec : {M : Type 1} → statement M
+write-front-spec =
+    tie.close
+    (tie.spec write-four-requires write-four-requires-2 write-four-requires-3 same-length returns)

@@ -1,0 +1,21 @@
+use Rattle.board.proofs.Laws.{state-written}
+use denote.Ref.{now}
+use borrow.Author.Needs.{needs}
+use Rattle.board.proofs.kept.write_state.Statement.{statement}
+use Rattle.board.proofs.kept.write_state.Tie as tie
+
+write-front-requires : tie.Need-write-front-requires
+write-front-requires c κs = search needs
+
+write-rest-requires : tie.Need-write-rest-requires
+write-rest-requires c κs = search needs
+
+same-length : tie.Need-same-length
+same-length c = search needs
+
+returns : tie.Need-returns
+returns c = let a = c .before .before .before .before .before .before .before .before .before .before .before .before .args in state-written (a .d) (now (a .state)) (c .before .before .before .before .before .before .before .before .before .before .before .before .pre) (c .before .before .before .before .before .before .write-front .ensures) (c .before .before .write-rest .ensures)
+
+pub write-state-spec : {M : Type 1} → statement M
+write-state-spec =
+    tie.close (tie.spec write-front-requires write-rest-requires same-length returns)

@@ -1,0 +1,61 @@
+use Rattle.board.specs.Board.{message}
+use Rattle.board.proofs.Ways.{not-queue, queue-called}
+use Rattle.recorder.specs.Receiving.{raised}
+use Rattle.board.proofs.Laws.{state-long}
+use Rattle.recorder.specs.Outcomes.{lends}
+use Rattle.common.proofs.Bools.{said, denied}
+use mathlib.Core.List.{[]}
+use denote.Ref.{now}
+use borrow.Author.Needs.{needs}
+use Rattle.board.proofs.receiving.sv_raise.Statement.{statement}
+use Rattle.board.proofs.receiving.sv_raise.Tie as tie
+
+is-state-requires : tie.Need-is-state-requires
+is-state-requires c κs = search needs
+
+same-length : tie.Need-same-length
+same-length c = search needs
+
+returns : tie.Need-returns
+returns c =
+    let a = c .before .before .before .before .before .args in
+    not-queue (raised (a .code) (a .tick) (message (a .id) (a .format) (a .rtr) (a .dlc) (now (a .bytes)))) (now (a .state)) (lends (now (a .queue)) [] []) (denied (c .before .is-state .ensures) (c .if1 .taken))
+
+device-in-requires : tie.Need-device-in-requires
+device-in-requires c κs = state-long _ (said (c .before .before .is-state .ensures) (c .before .if1 .left))
+
+message-requires : tie.Need-message-requires
+message-requires c κs = search needs
+
+raise-requires : tie.Need-raise-requires
+raise-requires c κs = search needs
+
+leave-requires : tie.Need-leave-requires
+leave-requires c κs = state-long _ (said (c .before .before .before .before .before .before .before .before .before .before .is-state .ensures) (c .before .before .before .before .before .before .before .before .before .if1 .left))
+
+same-length-2 : tie.Need-same-length-2
+same-length-2 c = search needs
+
+same-length-3 : tie.Need-same-length-3
+same-length-3 c = search needs
+
+returns-2 : tie.Need-returns-2
+returns-2 c =
+    let a = c .before .before .before .before .before .before .before .before .before .before .before .before .before .before .before .before .before .args in
+    queue-called (raised (a .code) (a .tick) (message (a .id) (a .format) (a .rtr) (a .dlc) (now (a .bytes)))) (now (a .state)) (lends (now (a .queue)) [] []) (said (c .before .before .before .before .before .before .before .before .before .before .before .before .before .is-state .ensures) (c .before .before .before .before .before .before .before .before .before .before .before .before .if1 .left)) (c .before .before .before .before .before .before .before .before .before .before .device-in .ensures)
+    (rw (c .before .before .before .before .before .before .before .before .before .message .ensures) at (c .before .before .before .before .before .before .before .raise .ensures)) (c .before .before .leave .ensures)
+
+pub sv-raise-spec : {M : Type 1} → statement M
+sv-raise-spec =
+    tie.close
+    (tie.spec
+    is-state-requires
+    same-length
+    returns
+    device-in-requires
+    message-requires
+    raise-requires
+    leave-requires
+    same-length-2
+    same-length-3
+    returns-2)

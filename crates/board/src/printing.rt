@@ -1,0 +1,68 @@
+// The print calls: they take Align from the channel and change no state.
+use crate::kept;
+ghost use mathlib.Core.List.{[]};
+ghost use Rattle.recorder.specs.Outcomes.{lends};
+ghost use Rattle.recorder.specs.Printing.{messageRecordPrinted, eventRecordPrinted, messagePrinted};
+ghost use Rattle.board.specs.Board.{on, message, PrintCalled};
+
+// Prints a message record.
+#[no_mangle]
+pub extern "C" fn sv_print_message_record(
+    state: &[u8],
+    s: &[u8],
+    out: &mut [u8],
+    length: &mut usize,
+) -> u32
+    ensures { λ n. ⌜ PrintCalled (on (messageRecordPrinted (now (s .entry))) (now (state .entry)) (lends [] [] (now (out .entry)))) (now (length .entry)) n (now (out .exit)) (now (length .exit)) ⌝ }
+{
+    if !kept::is_state(state) {
+        return 2;
+    }
+    let d = kept::device_in(state);
+    let r = recorder::printing::print_message_record(d, s, out);
+    kept::hand(length, r.number, r.length);
+    r.number
+}
+
+// Prints an event record.
+#[no_mangle]
+pub extern "C" fn sv_print_event_record(
+    state: &[u8],
+    s: &[u8],
+    out: &mut [u8],
+    length: &mut usize,
+) -> u32
+    ensures { λ n. ⌜ PrintCalled (on (eventRecordPrinted (now (s .entry))) (now (state .entry)) (lends [] [] (now (out .entry)))) (now (length .entry)) n (now (out .exit)) (now (length .exit)) ⌝ }
+{
+    if !kept::is_state(state) {
+        return 2;
+    }
+    let d = kept::device_in(state);
+    let r = recorder::printing::print_event_record(d, s, out);
+    kept::hand(length, r.number, r.length);
+    r.number
+}
+
+// Prints a message given alone: raw identifier, either mode.
+#[no_mangle]
+pub extern "C" fn sv_print_message(
+    state: &[u8],
+    id: u32,
+    format: u32,
+    rtr: u32,
+    dlc: u32,
+    bytes: &[u8; 8],
+    out: &mut [u8],
+    length: &mut usize,
+) -> u32
+    ensures { λ n. ⌜ PrintCalled (on (messagePrinted (message id format rtr dlc (now (bytes .entry)))) (now (state .entry)) (lends [] [] (now (out .entry)))) (now (length .entry)) n (now (out .exit)) (now (length .exit)) ⌝ }
+{
+    if !kept::is_state(state) {
+        return 2;
+    }
+    let d = kept::device_in(state);
+    let m = kept::message(id, format, rtr, dlc, bytes);
+    let r = recorder::printing::print_message(d, m, out);
+    kept::hand(length, r.number, r.length);
+    r.number
+}

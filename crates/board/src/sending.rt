@@ -1,0 +1,50 @@
+// Sending a message, binary or as text.
+use crate::kept;
+ghost use mathlib.Core.List.{[]};
+ghost use Rattle.recorder.specs.Outcomes.{lends};
+ghost use Rattle.recorder.specs.Sending.{sent, textSent};
+ghost use Rattle.board.specs.Board.{on, message, SendCalled, SendTextCalled};
+
+// Sends a message given in binary.
+#[no_mangle]
+pub extern "C" fn sv_send(
+    state: &mut [u8],
+    id: u32,
+    format: u32,
+    rtr: u32,
+    dlc: u32,
+    bytes: &[u8; 8],
+    send: &mut [u8],
+) -> u32
+    ensures { λ n. ⌜ SendCalled (on (sent (message id format rtr dlc (now (bytes .entry)))) (now (state .entry)) (lends [] (now (send .entry)) [])) (now (state .entry)) n (now (state .exit)) (now (send .exit)) ⌝ }
+{
+    if !kept::is_state(state) {
+        return 2;
+    }
+    let d = kept::device_in(state);
+    let m = kept::message(id, format, rtr, dlc, bytes);
+    let r = recorder::sending::send(d, m, send);
+    let next = r.device;
+    kept::leave(state, r.number, next)
+}
+
+// Sends the message at the front of a text; the bytes used are answered at every call.
+#[no_mangle]
+pub extern "C" fn sv_send_text(
+    state: &mut [u8],
+    text: &[u8],
+    send: &mut [u8],
+    used: &mut usize,
+) -> u32
+    ensures { λ n. ⌜ SendTextCalled (on (textSent (now (text .entry))) (now (state .entry)) (lends [] (now (send .entry)) [])) (now (state .entry)) n (now (state .exit)) (now (send .exit)) (now (used .exit)) ⌝ }
+{
+    if !kept::is_state(state) {
+        *used = 0;
+        return 2;
+    }
+    let d = kept::device_in(state);
+    let r = recorder::sending::send_text(d, text, send);
+    *used = r.value;
+    let next = r.device;
+    kept::leave(state, r.number, next)
+}

@@ -1,0 +1,162 @@
+/*
+ * Salmevidro, the core of a CAN recorder: every call of the recorder for C and C++.
+ *
+ * The device is kept in SV_STATE bytes that the caller lends to each call. The event table and the message table are
+ * lent as well, as pointer and length: SV_EVENT bytes for each event of the queue, SV_MESSAGE for each message of the
+ * send buffer. There is no heap and no global state; blocking, timeouts and locking are the shell's.
+ *
+ * Every call returns its number: 0 for success (a raise 100 to 103), 1 to 14 for a refusal. A refused call leaves every
+ * byte of the state, of the tables and of the buffers, and every value behind a pointer, as it was. The one exception is
+ * `used` of sv_send_text, which is written at every call.
+ *
+ *    1  a setting outside its range            8  bad identifier
+ *    2  no state, or a table too short         9  rtr above 1
+ *    3  output room too short                 10  dlc above 15
+ *    4  nothing to read, look at, take        11  more than eight data values
+ *    5  send buffer full, register occupied   12  data value above 255
+ *    6  no end in the text                    13  bad format for this call or mode
+ *    7  too few values                        14  damaged slot or record
+ *
+ * What the caller must hold to: each pointer is valid for its length (a pointer without one for the size written in
+ * the brackets, or for one value), for the whole call; it is not null, even where the length is 0; and what is lent to
+ * one call does not overlap, but for places that the call only reads. Calls on one state are made one at a time.
+ *
+ * The state: twenty 32-bit numbers, lowest byte first, then the register's eight data bytes.
+ *
+ *     0 mode      16 code             32 queue first    48 buffer capacity   64 register id
+ *     4 format    20 mask             36 queue count    52 buffer first      68 register format
+ *     8 align     24 event mask       40 pending lost   56 buffer count      72 register rtr
+ *    12 active    28 queue capacity   44 TxMode         60 held, 0 or 1      76 register dlc   80..87 register data
+ *
+ * A state may be copied, stored and read. Any bytes may be handed in as one: a state of another length, held above 1 or
+ * numbers that no device can have are refusal 2.
+ */
+#ifndef SALMEVIDRO_H
+#define SALMEVIDRO_H
+
+#include <stddef.h>
+#include <stdint.h>
+
+#ifdef __cplusplus
+extern "C" {
+#define SV_AT_LEAST(n) n
+#else
+#define SV_AT_LEAST(n) static n
+#endif
+
+/* Bytes of a state, of an event, of a message; room that a line of text needs, whatever the line. */
+enum { SV_STATE = 88, SV_EVENT = 32, SV_MESSAGE = 16, SV_EVENT_ROOM = 80, SV_MESSAGE_ROOM = 37 };
+
+/* What a raise answers. */
+enum { SV_RECORDED = 100, SV_FILTERED = 101, SV_MASKED = 102, SV_LOST = 103 };
+
+/* ---- opening */
+
+/* Opens a device into the state: both rings empty. Writes no byte of the tables.
+ * Refusals: 1; 2 also for a state of another length than SV_STATE. */
+uint32_t sv_open(uint8_t *state, size_t state_length, uint32_t mode, uint32_t format, uint32_t align,
+                 uint32_t mask_active, uint32_t code, uint32_t mask, uint32_t event_mask, uint32_t queue_capacity,
+                 uint32_t tx_mode, uint32_t buffer_capacity, const uint8_t *queue, size_t queue_length,
+                 const uint8_t *send, size_t send_length);
+
+/* ---- changes of setting */
+
+/* Sets the mode (0 is CAN 2.0A, 1 is 2.0B) and raises code 5, even if the value is the same.
+ * Refusals: 2, 1. */
+uint32_t sv_set_mode(uint8_t *state, size_t state_length, uint32_t mode, uint32_t tick, uint8_t *queue,
+                     size_t queue_length);
+
+/* Sets the default format (0 default, 1 standard, 2 extended) and raises code 5.
+ * Refusals: 2, 1. */
+uint32_t sv_set_format(uint8_t *state, size_t state_length, uint32_t format, uint32_t tick, uint8_t *queue,
+                       size_t queue_length);
+
+/* Sets code and mask of the acceptance filter; raises nothing.
+ * Refusals: 2. */
+uint32_t sv_set_filter(uint8_t *state, size_t state_length, uint32_t code, uint32_t mask);
+
+/* Sets the event mask, whose bits 12 to 31 must be 0; raises nothing.
+ * Refusals: 2, 1. */
+uint32_t sv_set_event_mask(uint8_t *state, size_t state_length, uint32_t event_mask);
+
+/* ---- receiving */
+
+/* Raises an event; codes 1 to 3 hold the frame (raw identifier), other codes ignore it. Answers 100 to 103.
+ * Refusals: 2; codes 1 to 3: 13, 8, 9, 10. */
+uint32_t sv_raise(uint8_t *state, size_t state_length, uint32_t code, uint32_t tick, uint32_t id, uint32_t format,
+                  uint32_t rtr, uint32_t dlc, const uint8_t data[SV_AT_LEAST(8)], uint8_t *queue, size_t queue_length);
+
+/* Takes the oldest event from the queue as its 32 bytes.
+ * Refusals: 2, 4, 14. */
+uint32_t sv_read_record(uint8_t *state, size_t state_length, const uint8_t *queue, size_t queue_length,
+                        uint8_t out[SV_AT_LEAST(32)]);
+
+/* Takes the oldest event from the queue as a line of text, ended by LF; length is the line's.
+ * Refusals: 2, 3 (room below SV_EVENT_ROOM), 4, 14. */
+uint32_t sv_read_text(uint8_t *state, size_t state_length, const uint8_t *queue, size_t queue_length, uint8_t *out,
+                      size_t out_length, size_t *length);
+
+/* The number of a look at position p, 0 being the oldest event.
+ * Refusals: 2, 4. */
+uint32_t sv_look_number(const uint8_t *state, size_t state_length, const uint8_t *queue, size_t queue_length,
+                        uint32_t p);
+
+/* Looks at position p without taking the event: its 32 bytes begin at queue + offset. They are not judged.
+ * Refusals: 2, 4. */
+uint32_t sv_look(const uint8_t *state, size_t state_length, const uint8_t *queue, size_t queue_length, uint32_t p,
+                 size_t *offset);
+
+/* How many identifiers of a format (1 or 2) the filter lets through.
+ * Refusals: 2, 13. */
+uint32_t sv_identifiers_through(const uint8_t *state, size_t state_length, uint32_t format, uint32_t *count);
+
+/* ---- sending */
+
+/* Puts a message into the send buffer: format 0 is the default format, the identifier is aligned.
+ * Refusals: 2, 13, 8, 9, 10, 5. */
+uint32_t sv_send(uint8_t *state, size_t state_length, uint32_t id, uint32_t format, uint32_t rtr, uint32_t dlc,
+                 const uint8_t data[SV_AT_LEAST(8)], uint8_t *send, size_t send_length);
+
+/* Puts the message at the front of a text into the send buffer; used is how many bytes of the text are done with, at
+ * every call: 0 on 2, 5 and 6. Refusals: 2, 6, 7, 8, 9, 10, 7, 11, 12, 5. */
+uint32_t sv_send_text(uint8_t *state, size_t state_length, const uint8_t *text, size_t text_length, uint8_t *send,
+                      size_t send_length, size_t *used);
+
+/* Moves the oldest message to the transmit register and hands out its 16 bytes; may raise code 2 (TxMode).
+ * Refusals: 2, 5, 4, 14. */
+uint32_t sv_take(uint8_t *state, size_t state_length, uint32_t tick, const uint8_t *send, size_t send_length,
+                 uint8_t *queue, size_t queue_length, uint8_t out[SV_AT_LEAST(16)]);
+
+/* Empties the register: its message was transmitted; may raise code 2 (TxMode).
+ * Refusals: 2, 4. */
+uint32_t sv_done(uint8_t *state, size_t state_length, uint32_t tick, uint8_t *queue, size_t queue_length);
+
+/* Empties the register, raising code 3 if it held a message, and purges the send buffer; purged is how many were in it.
+ * Refusals: 2. */
+uint32_t sv_abort(uint8_t *state, size_t state_length, uint32_t tick, uint8_t *queue, size_t queue_length,
+                  uint32_t *purged);
+
+/* ---- printing: Align is the state's, which stays as it is */
+
+/* Prints a message record as a line of text, ended by LF; length is the line's.
+ * Refusals: 2, 3 (room below SV_MESSAGE_ROOM), 14. */
+uint32_t sv_print_message_record(const uint8_t *state, size_t state_length, const uint8_t *record, size_t record_length,
+                                 uint8_t *out, size_t out_length, size_t *length);
+
+/* Prints an event record as a line of text, ended by LF; length is the line's.
+ * Refusals: 2, 3 (room below SV_EVENT_ROOM), 14. */
+uint32_t sv_print_event_record(const uint8_t *state, size_t state_length, const uint8_t *record, size_t record_length,
+                               uint8_t *out, size_t out_length, size_t *length);
+
+/* Prints a message given alone, raw identifier and format 1 or 2, as a line of text ended by LF.
+ * Refusals: 2, 3 (room below SV_MESSAGE_ROOM), 13, 8, 9, 10. */
+uint32_t sv_print_message(const uint8_t *state, size_t state_length, uint32_t id, uint32_t format, uint32_t rtr,
+                          uint32_t dlc, const uint8_t data[SV_AT_LEAST(8)], uint8_t *out, size_t out_length,
+                          size_t *length);
+
+#undef SV_AT_LEAST
+#ifdef __cplusplus
+}
+#endif
+
+#endif
