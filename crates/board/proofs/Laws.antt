@@ -39,14 +39,17 @@ four-stores s at a b c d =
     rw (e1, e2, e3)
 
 pub eight-stores : (s : List ℕ) (at : ℕ) (b : List ℕ) → length b ≡ 8
-    → set (set (set (set (set (set (set (set s at (getD b 0 0)) (at + 1) (getD b 1 0)) (at + 2) (getD b 2 0)) (at + 3) (getD b 3 0)) (at + 4) (getD b 4 0)) (at + 5) (getD b 5 0)) (at + 6) (getD b 6 0)) (at + 7) (getD b 7 0)
+    → set (set (set (set (set (set (set (set s at (getD b 0 0)) (at + 1) (getD b 1 0)) (at + 2) (getD b 2 0)) (at + 3) (getD b 3 0)) (at + 4) (getD b 4 0))
+    (at + 5) (getD b 5 0)) (at + 6) (getD b 6 0)) (at + 7) (getD b 7 0)
     ≡ sets s at b
 eight-stores s at b l =
     let e4 : at + 4 ≡ suc (suc (suc (suc at))) = omega arith in
     let e5 : at + 5 ≡ suc (suc (suc (suc at))) + 1 = omega arith in
     let e6 : at + 6 ≡ suc (suc (suc (suc at))) + 2 = omega arith in
     let e7 : at + 7 ≡ suc (suc (suc (suc at))) + 3 = omega arith in
-    rw (four-stores s at (getD b 0 0) (getD b 1 0) (getD b 2 0) (getD b 3 0), e4, e5, e6, e7, four-stores (sets s at (reads b 0 4)) (suc (suc (suc (suc at)))) (getD b 4 0) (getD b 5 0) (getD b 6 0) (getD b 7 0))
+    let x = four-stores s at (getD b 0 0) (getD b 1 0) (getD b 2 0) (getD b 3 0) in
+    let y = four-stores (sets s at (reads b 0 4)) (suc (suc (suc (suc at)))) (getD b 4 0) (getD b 5 0) (getD b 6 0) (getD b 7 0) in
+    rw (x, e4, e5, e6, e7, y)
     (ap (sets s at) (reads-all b 8 l))
 
 -- what a lent place holds after a call, the test of its number being b

@@ -208,7 +208,10 @@ module _ (given : Settings) (s : List ℕ) (l : Lent) {r : Answer} (a : r ≡ an
   -- opening answers 0, 1 or 2
   open-refusal : (opened given l .number ≡ 0 → ⊥) → isRefusal (opened given l .number) ≡ true
   unfolding opened isRefusal
-  open-refusal = both P (good (fresh given)) _ _ (both P (queueFits (fresh given .receive) (length (l .queue)) && sendFits (fresh given .send) (length (l .send))) _ _ (λ z. absurd (z refl)) (λ z. refl)) (λ z. refl)
+  open-refusal =
+      both P (good (fresh given)) _ _
+      (both P (queueFits (fresh given .receive) (length (l .queue)) && sendFits (fresh given .send) (length (l .send))) _ _ (λ z. absurd (z refl)) (λ z. refl))
+      (λ z. refl)
     where
       P : Outcome → Type 0
       P o = (o .number ≡ 0 → ⊥) → isRefusal (o .number) ≡ true

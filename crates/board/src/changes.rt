@@ -15,22 +15,21 @@ pub extern "C" fn sv_set_mode(state: &mut [u8], mode: u32, tick: u32, queue: &mu
     }
     let d = kept::device_in(state);
     let r = recorder::changes::set_mode(d, mode, tick, queue);
-    let next = r.device;
-    kept::leave(state, r.number, next)
+    kept::leave(state, r.number, r.device)
 }
 
 // Sets the default format.
 #[no_mangle]
 pub extern "C" fn sv_set_format(state: &mut [u8], format: u32, tick: u32, queue: &mut [u8]) -> u32
-    ensures { λ n. ⌜ QueueCalled (on (formatSet format tick) (now (state .entry)) (lends (now (queue .entry)) [] [])) (now (state .entry)) n (now (state .exit)) (now (queue .exit)) ⌝ }
+    ensures { λ n. ⌜ QueueCalled (on (formatSet format tick) (now (state .entry)) (lends (now (queue .entry)) [] []))
+        (now (state .entry)) n (now (state .exit)) (now (queue .exit)) ⌝ }
 {
     if !kept::is_state(state) {
         return 2;
     }
     let d = kept::device_in(state);
     let r = recorder::changes::set_format(d, format, tick, queue);
-    let next = r.device;
-    kept::leave(state, r.number, next)
+    kept::leave(state, r.number, r.device)
 }
 
 // Sets code and mask of the filter.
@@ -43,8 +42,7 @@ pub extern "C" fn sv_set_filter(state: &mut [u8], code: u32, mask: u32) -> u32
     }
     let d = kept::device_in(state);
     let r = recorder::changes::set_filter(d, code, mask);
-    let next = r.device;
-    kept::leave(state, r.number, next)
+    kept::leave(state, r.number, r.device)
 }
 
 // Sets the event mask.
@@ -57,6 +55,5 @@ pub extern "C" fn sv_set_event_mask(state: &mut [u8], events: u32) -> u32
     }
     let d = kept::device_in(state);
     let r = recorder::changes::set_event_mask(d, events);
-    let next = r.device;
-    kept::leave(state, r.number, next)
+    kept::leave(state, r.number, r.device)
 }

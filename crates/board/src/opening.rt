@@ -22,7 +22,8 @@ pub extern "C" fn sv_open(
     queue: &[u8],
     send: &[u8],
 ) -> u32
-    ensures { λ n. ⌜ Called (openedOn (settings mode format align active code mask events slots tx places) (now (state .entry)) (lends (now (queue .entry)) (now (send .entry)) [])) (now (state .entry)) n (now (state .exit)) ⌝ }
+    ensures { λ n. ⌜ Called (openedOn (settings mode format align active code mask events slots tx places) (now (state .entry)) (lends (now (queue .entry)) (now (send .entry)) []))
+        (now (state .entry)) n (now (state .exit)) ⌝ }
 {
     let given = Settings {
         mode: mode,

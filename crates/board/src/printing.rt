@@ -13,7 +13,8 @@ pub extern "C" fn sv_print_message_record(
     out: &mut [u8],
     length: &mut usize,
 ) -> u32
-    ensures { λ n. ⌜ PrintCalled (on (messageRecordPrinted (now (s .entry))) (now (state .entry)) (lends [] [] (now (out .entry)))) (now (length .entry)) n (now (out .exit)) (now (length .exit)) ⌝ }
+    ensures { λ n. ⌜ PrintCalled (on (messageRecordPrinted (now (s .entry))) (now (state .entry)) (lends [] [] (now (out .entry))))
+        (now (length .entry)) n (now (out .exit)) (now (length .exit)) ⌝ }
 {
     if !kept::is_state(state) {
         return 2;
@@ -32,7 +33,8 @@ pub extern "C" fn sv_print_event_record(
     out: &mut [u8],
     length: &mut usize,
 ) -> u32
-    ensures { λ n. ⌜ PrintCalled (on (eventRecordPrinted (now (s .entry))) (now (state .entry)) (lends [] [] (now (out .entry)))) (now (length .entry)) n (now (out .exit)) (now (length .exit)) ⌝ }
+    ensures { λ n. ⌜ PrintCalled (on (eventRecordPrinted (now (s .entry))) (now (state .entry)) (lends [] [] (now (out .entry))))
+        (now (length .entry)) n (now (out .exit)) (now (length .exit)) ⌝ }
 {
     if !kept::is_state(state) {
         return 2;
@@ -55,7 +57,8 @@ pub extern "C" fn sv_print_message(
     out: &mut [u8],
     length: &mut usize,
 ) -> u32
-    ensures { λ n. ⌜ PrintCalled (on (messagePrinted (message id format rtr dlc (now (bytes .entry)))) (now (state .entry)) (lends [] [] (now (out .entry)))) (now (length .entry)) n (now (out .exit)) (now (length .exit)) ⌝ }
+    ensures { λ n. ⌜ PrintCalled (on (messagePrinted (message id format rtr dlc (now (bytes .entry)))) (now (state .entry)) (lends [] [] (now (out .entry))))
+        (now (length .entry)) n (now (out .exit)) (now (length .exit)) ⌝ }
 {
     if !kept::is_state(state) {
         return 2;

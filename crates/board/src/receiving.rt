@@ -20,7 +20,8 @@ pub extern "C" fn sv_raise(
     bytes: &[u8; 8],
     queue: &mut [u8],
 ) -> u32
-    ensures { λ n. ⌜ QueueCalled (on (raised code tick (message id format rtr dlc (now (bytes .entry)))) (now (state .entry)) (lends (now (queue .entry)) [] [])) (now (state .entry)) n (now (state .exit)) (now (queue .exit)) ⌝ }
+    ensures { λ n. ⌜ QueueCalled (on (raised code tick (message id format rtr dlc (now (bytes .entry)))) (now (state .entry)) (lends (now (queue .entry)) [] []))
+        (now (state .entry)) n (now (state .exit)) (now (queue .exit)) ⌝ }
 {
     if !kept::is_state(state) {
         return 2;
@@ -28,14 +29,14 @@ pub extern "C" fn sv_raise(
     let d = kept::device_in(state);
     let m = kept::message(id, format, rtr, dlc, bytes);
     let r = recorder::receiving::raise(d, code, tick, m, queue);
-    let next = r.device;
-    kept::leave(state, r.number, next)
+    kept::leave(state, r.number, r.device)
 }
 
 // Reads the oldest event as its 32 bytes.
 #[no_mangle]
 pub extern "C" fn sv_read_record(state: &mut [u8], queue: &[u8], out: &mut [u8; 32]) -> u32
-    ensures { λ n. ⌜ RecordCalled (on recordRead (now (state .entry)) (lends (now (queue .entry)) [] [])) (now (state .entry)) (now (out .entry)) n (now (state .exit)) (now (out .exit)) ⌝ }
+    ensures { λ n. ⌜ RecordCalled (on recordRead (now (state .entry)) (lends (now (queue .entry)) [] []))
+        (now (state .entry)) (now (out .entry)) n (now (state .exit)) (now (out .exit)) ⌝ }
 {
     if !kept::is_state(state) {
         return 2;
@@ -44,8 +45,7 @@ pub extern "C" fn sv_read_record(state: &mut [u8], queue: &[u8], out: &mut [u8; 
     let r = recorder::receiving::read_record(d, queue);
     let b = r.bytes;
     kept::hand_event(out, r.number, b);
-    let next = r.device;
-    kept::leave(state, r.number, next)
+    kept::leave(state, r.number, r.device)
 }
 
 // Reads the oldest event as text.
@@ -56,7 +56,8 @@ pub extern "C" fn sv_read_text(
     out: &mut [u8],
     length: &mut usize,
 ) -> u32
-    ensures { λ n. ⌜ TextCalled (on textRead (now (state .entry)) (lends (now (queue .entry)) [] (now (out .entry)))) (now (state .entry)) (now (length .entry)) n (now (state .exit)) (now (out .exit)) (now (length .exit)) ⌝ }
+    ensures { λ n. ⌜ TextCalled (on textRead (now (state .entry)) (lends (now (queue .entry)) [] (now (out .entry)))) (now (state .entry))
+        (now (length .entry)) n (now (state .exit)) (now (out .exit)) (now (length .exit)) ⌝ }
 {
     if !kept::is_state(state) {
         return 2;
@@ -64,8 +65,7 @@ pub extern "C" fn sv_read_text(
     let d = kept::device_in(state);
     let r = recorder::receiving::read_text(d, queue, out);
     kept::hand(length, r.number, r.value);
-    let next = r.device;
-    kept::leave(state, r.number, next)
+    kept::leave(state, r.number, r.device)
 }
 
 // The number of a look at position p.

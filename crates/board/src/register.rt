@@ -14,7 +14,8 @@ pub extern "C" fn sv_take(
     queue: &mut [u8],
     out: &mut [u8; 16],
 ) -> u32
-    ensures { λ n. ⌜ TakeCalled (on (taken tick) (now (state .entry)) (lends (now (queue .entry)) (now (send .entry)) [])) (now (state .entry)) (now (out .entry)) n (now (state .exit)) (now (queue .exit)) (now (out .exit)) ⌝ }
+    ensures { λ n. ⌜ TakeCalled (on (taken tick) (now (state .entry)) (lends (now (queue .entry)) (now (send .entry)) []))
+        (now (state .entry)) (now (out .entry)) n (now (state .exit)) (now (queue .exit)) (now (out .exit)) ⌝ }
 {
     if !kept::is_state(state) {
         return 2;
@@ -23,8 +24,7 @@ pub extern "C" fn sv_take(
     let r = recorder::register::take(d, tick, send, queue);
     let b = r.bytes;
     kept::hand_message(out, r.number, b);
-    let next = r.device;
-    kept::leave(state, r.number, next)
+    kept::leave(state, r.number, r.device)
 }
 
 // Empties the register: its message was transmitted.
@@ -37,14 +37,14 @@ pub extern "C" fn sv_done(state: &mut [u8], tick: u32, queue: &mut [u8]) -> u32
     }
     let d = kept::device_in(state);
     let r = recorder::register::done(d, tick, queue);
-    let next = r.device;
-    kept::leave(state, r.number, next)
+    kept::leave(state, r.number, r.device)
 }
 
 // Empties the register and purges the buffer; hands back how many were purged.
 #[no_mangle]
 pub extern "C" fn sv_abort(state: &mut [u8], tick: u32, queue: &mut [u8], purged: &mut u32) -> u32
-    ensures { λ n. ⌜ AbortCalled (on (aborted tick) (now (state .entry)) (lends (now (queue .entry)) [] [])) (now (state .entry)) (now (purged .entry)) n (now (state .exit)) (now (queue .exit)) (now (purged .exit)) ⌝ }
+    ensures { λ n. ⌜ AbortCalled (on (aborted tick) (now (state .entry)) (lends (now (queue .entry)) [] []))
+        (now (state .entry)) (now (purged .entry)) n (now (state .exit)) (now (queue .exit)) (now (purged .exit)) ⌝ }
 {
     if !kept::is_state(state) {
         return 2;
@@ -54,6 +54,5 @@ pub extern "C" fn sv_abort(state: &mut [u8], tick: u32, queue: &mut [u8], purged
     let ring = channel.ring;
     let r = recorder::register::abort(d, tick, queue);
     kept::hand_number(purged, r.number, ring.count);
-    let next = r.device;
-    kept::leave(state, r.number, next)
+    kept::leave(state, r.number, r.device)
 }

@@ -16,7 +16,8 @@ pub extern "C" fn sv_send(
     bytes: &[u8; 8],
     send: &mut [u8],
 ) -> u32
-    ensures { λ n. ⌜ SendCalled (on (sent (message id format rtr dlc (now (bytes .entry)))) (now (state .entry)) (lends [] (now (send .entry)) [])) (now (state .entry)) n (now (state .exit)) (now (send .exit)) ⌝ }
+    ensures { λ n. ⌜ SendCalled (on (sent (message id format rtr dlc (now (bytes .entry)))) (now (state .entry)) (lends [] (now (send .entry)) []))
+        (now (state .entry)) n (now (state .exit)) (now (send .exit)) ⌝ }
 {
     if !kept::is_state(state) {
         return 2;
@@ -24,8 +25,7 @@ pub extern "C" fn sv_send(
     let d = kept::device_in(state);
     let m = kept::message(id, format, rtr, dlc, bytes);
     let r = recorder::sending::send(d, m, send);
-    let next = r.device;
-    kept::leave(state, r.number, next)
+    kept::leave(state, r.number, r.device)
 }
 
 // Sends the message at the front of a text; the bytes used are answered at every call.
@@ -36,7 +36,8 @@ pub extern "C" fn sv_send_text(
     send: &mut [u8],
     used: &mut usize,
 ) -> u32
-    ensures { λ n. ⌜ SendTextCalled (on (textSent (now (text .entry))) (now (state .entry)) (lends [] (now (send .entry)) [])) (now (state .entry)) n (now (state .exit)) (now (send .exit)) (now (used .exit)) ⌝ }
+    ensures { λ n. ⌜ SendTextCalled (on (textSent (now (text .entry))) (now (state .entry)) (lends [] (now (send .entry)) []))
+        (now (state .entry)) n (now (state .exit)) (now (send .exit)) (now (used .exit)) ⌝ }
 {
     if !kept::is_state(state) {
         *used = 0;
@@ -45,6 +46,5 @@ pub extern "C" fn sv_send_text(
     let d = kept::device_in(state);
     let r = recorder::sending::send_text(d, text, send);
     *used = r.value;
-    let next = r.device;
-    kept::leave(state, r.number, next)
+    kept::leave(state, r.number, r.device)
 }

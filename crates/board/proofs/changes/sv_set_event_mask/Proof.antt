@@ -27,16 +27,20 @@ set-event-mask-requires : tie.Need-set-event-mask-requires
 set-event-mask-requires c κs = search needs
 
 leave-requires : tie.Need-leave-requires
-leave-requires c κs = state-long _ (said (c .before .before .before .before .before .before .is-state .ensures) (c .before .before .before .before .before .if1 .left))
+leave-requires c κs = state-long _ (said (c .before .before .before .before .before .is-state .ensures) (c .before .before .before .before .if1 .left))
 
 same-length-2 : tie.Need-same-length-2
 same-length-2 c = search needs
 
 returns-2 : tie.Need-returns-2
 returns-2 c =
-    let a = c .before .before .before .before .before .before .before .before .before .before .before .before .args in
-    called (eventMaskSet (a .events)) (now (a .state)) (lends [] [] []) (said (c .before .before .before .before .before .before .before .before .before .is-state .ensures) (c .before .before .before .before .before .before .before .before .if1 .left)) (c .before .before .before .before .before .before .device-in .ensures)
-    (c .before .before .before .before .before .set-event-mask .ensures) (c .before .before .leave .ensures)
+    let a = c .before .before .before .before .before .before .before .before .before .before .before .args in
+    let is-state = c .before .before .before .before .before .before .before .before .is-state in
+    let if1 = c .before .before .before .before .before .before .before .if1 in
+    let device-in = c .before .before .before .before .before .device-in in
+    let set-event-mask = c .before .before .before .before .set-event-mask in
+    let leave = c .before .before .leave in
+    called (eventMaskSet (a .events)) (now (a .state)) (lends [] [] []) (said (is-state .ensures) (if1 .left)) (device-in .ensures) (set-event-mask .ensures) (leave .ensures)
 
 pub sv-set-event-mask-spec : {M : Type 1} → statement M
 sv-set-event-mask-spec =

@@ -27,16 +27,20 @@ set-filter-requires : tie.Need-set-filter-requires
 set-filter-requires c κs = search needs
 
 leave-requires : tie.Need-leave-requires
-leave-requires c κs = state-long _ (said (c .before .before .before .before .before .before .is-state .ensures) (c .before .before .before .before .before .if1 .left))
+leave-requires c κs = state-long _ (said (c .before .before .before .before .before .is-state .ensures) (c .before .before .before .before .if1 .left))
 
 same-length-2 : tie.Need-same-length-2
 same-length-2 c = search needs
 
 returns-2 : tie.Need-returns-2
 returns-2 c =
-    let a = c .before .before .before .before .before .before .before .before .before .before .before .before .args in
-    called (filterSet (a .code) (a .mask)) (now (a .state)) (lends [] [] []) (said (c .before .before .before .before .before .before .before .before .before .is-state .ensures) (c .before .before .before .before .before .before .before .before .if1 .left)) (c .before .before .before .before .before .before .device-in .ensures)
-    (c .before .before .before .before .before .set-filter .ensures) (c .before .before .leave .ensures)
+    let a = c .before .before .before .before .before .before .before .before .before .before .before .args in
+    let is-state = c .before .before .before .before .before .before .before .before .is-state in
+    let if1 = c .before .before .before .before .before .before .before .if1 in
+    let device-in = c .before .before .before .before .before .device-in in
+    let set-filter = c .before .before .before .before .set-filter in
+    let leave = c .before .before .leave in
+    called (filterSet (a .code) (a .mask)) (now (a .state)) (lends [] [] []) (said (is-state .ensures) (if1 .left)) (device-in .ensures) (set-filter .ensures) (leave .ensures)
 
 pub sv-set-filter-spec : {M : Type 1} → statement M
 sv-set-filter-spec =

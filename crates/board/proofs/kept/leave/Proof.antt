@@ -17,7 +17,11 @@ same-length : tie.Need-same-length
 same-length c = search needs
 
 returns-2 : tie.Need-returns-2
-returns-2 c = record { number-is = refl; state-bytes = c .before .before .write-state .ensures ∙ kept-new _ _ _ (c .before .before .before .before .before .is-refusal .ensures) (c .before .before .before .before .if1 .left) }
+returns-2 c =
+    let write-state = c .before .before .write-state in
+    let is-refusal = c .before .before .before .before .before .is-refusal in
+    let if1 = c .before .before .before .before .if1 in
+    record { number-is = refl; state-bytes = write-state .ensures ∙ kept-new _ _ _ (is-refusal .ensures) (if1 .left) }
 
 pub leave-spec : {M : Type 1} → statement M
 leave-spec =

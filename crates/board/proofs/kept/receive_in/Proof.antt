@@ -29,7 +29,14 @@ word-requires-8 c κs = search needs
 
 returns : tie.Need-returns
 unfolding deviceIn
-returns c = rw (c .before .before .before .before .before .before .before .word .ensures, c .before .before .before .before .before .before .word2 .ensures, c .before .before .before .before .before .word3 .ensures, c .before .before .before .before .word4 .ensures, c .before .before .before .word5 .ensures, c .before .before .word6 .ensures, c .before .word7 .ensures, c .word8 .ensures)
+returns c =
+    let word = c .before .before .before .before .before .before .before .word in
+    let word2 = c .before .before .before .before .before .before .word2 in
+    let word3 = c .before .before .before .before .before .word3 in
+    let word4 = c .before .before .before .before .word4 in
+    let word5 = c .before .before .before .word5 in
+    let word6 = c .before .before .word6 in
+    rw (word .ensures, word2 .ensures, word3 .ensures, word4 .ensures, word5 .ensures, word6 .ensures, c .before .word7 .ensures, c .word8 .ensures)
 
 pub receive-in-spec : {M : Type 1} → statement M
 receive-in-spec =

@@ -23,7 +23,12 @@ register-in-requires c κs = search needs
 
 returns : tie.Need-returns
 unfolding deviceIn
-returns c = rw (c .before .before .before .before .before .word .ensures, c .before .before .before .before .word2 .ensures, c .before .before .before .word3 .ensures, c .before .before .word4 .ensures, c .before .word5 .ensures, c .register-in .ensures)
+returns c =
+    let word = c .before .before .before .before .before .word in
+    let word2 = c .before .before .before .before .word2 in
+    let word3 = c .before .before .before .word3 in
+    let word4 = c .before .before .word4 in
+    rw (word .ensures, word2 .ensures, word3 .ensures, word4 .ensures, c .before .word5 .ensures, c .register-in .ensures)
 
 pub send-in-spec : {M : Type 1} → statement M
 send-in-spec =

@@ -33,7 +33,10 @@ number-of-requires : tie.Need-number-of-requires
 number-of-requires c κs = search needs
 
 returns : tie.Need-returns
-returns c = let a = c .before .before .before .before .before .before .args in word-read (now (a .s)) (a .k) _ _ refl (c .before .before .before .before .before .before .pre) (c .number-of .ensures)
+returns c =
+    let a = c .before .before .before .before .before .before .args in
+    let pre = c .before .before .before .before .before .before .pre in
+    word-read (now (a .s)) (a .k) _ _ refl (pre) (c .number-of .ensures)
 
 pub word-spec : {M : Type 1} → statement M
 word-spec =

@@ -29,7 +29,13 @@ same-length : tie.Need-same-length
 same-length c = search needs
 
 returns : tie.Need-returns
-returns c = let a = c .before .before .before .before .before .before .before .before .before .before .before .before .before .before .before .before .before .args in four-written (a .a) (a .b) (a .c) (a .d) (a .at) (now (a .s)) (c .before .before .before .before .before .before .before .before .before .before .before .before .before .before .write-word .ensures) (c .before .before .before .before .before .before .before .before .before .before .write-word2 .ensures) (c .before .before .before .before .before .before .write-word3 .ensures) (c .before .before .write-word4 .ensures)
+returns c =
+    let a = c .before .before .before .before .before .before .before .before .before .before .before .before .before .before .before .before .before .args in
+    let write-word = c .before .before .before .before .before .before .before .before .before .before .before .before .before .before .write-word in
+    let write-word2 = c .before .before .before .before .before .before .before .before .before .before .write-word2 in
+    let write-word3 = c .before .before .before .before .before .before .write-word3 in
+    let write-word4 = c .before .before .write-word4 in
+    four-written (a .a) (a .b) (a .c) (a .d) (a .at) (now (a .s)) (write-word .ensures) (write-word2 .ensures) (write-word3 .ensures) (write-word4 .ensures)
 
 pub write-four-spec : {M : Type 1} → statement M
 write-four-spec =

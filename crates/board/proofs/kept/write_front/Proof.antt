@@ -17,7 +17,12 @@ same-length : tie.Need-same-length
 same-length c = search needs
 
 returns : tie.Need-returns
-returns c = let a = c .before .before .before .before .before .before .before .before .before .before .before .before .before .before .before .args in front-written (a .shared) (a .receive) (a .tx) (now (a .state)) (c .before .before .before .before .before .before .before .before .before .before .write-four .ensures) (c .before .before .before .before .before .before .write-four2 .ensures) (c .before .before .write-four3 .ensures)
+returns c =
+    let a = c .before .before .before .before .before .before .before .before .before .before .before .before .before .before .before .args in
+    let write-four = c .before .before .before .before .before .before .before .before .before .before .write-four in
+    let write-four2 = c .before .before .before .before .before .before .write-four2 in
+    let write-four3 = c .before .before .write-four3 in
+    front-written (a .shared) (a .receive) (a .tx) (now (a .state)) (write-four .ensures) (write-four2 .ensures) (write-four3 .ensures)
 
 pub write-front-spec : {M : Type 1} → statement M
 write-front-spec =

@@ -20,7 +20,12 @@ same-length : tie.Need-same-length
 same-length c = search needs
 
 returns : tie.Need-returns
-returns c = let a = c .before .before .before .before .before .before .before .before .before .before .before .before .before .before .before .before .before .before .args in (rest-written (a .send) (now (a .state)) (c .before .before .before .before .before .before .before .before .before .before .write-four .ensures) (c .before .before .before .before .before .before .write-four2 .ensures) (c .before .before .write-eight .ensures .0), c .before .before .write-eight .ensures .1)
+returns c =
+    let a = c .before .before .before .before .before .before .before .before .before .before .before .before .before .before .before .before .before .before .args in
+    let write-four = c .before .before .before .before .before .before .before .before .before .before .write-four in
+    let write-four2 = c .before .before .before .before .before .before .write-four2 in
+    let write-eight = c .before .before .write-eight in
+    (rest-written (a .send) (now (a .state)) (write-four .ensures) (write-four2 .ensures) (write-eight .ensures .0), write-eight .ensures .1)
 
 pub write-rest-spec : {M : Type 1} → statement M
 write-rest-spec =

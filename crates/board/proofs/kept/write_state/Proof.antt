@@ -14,7 +14,12 @@ same-length : tie.Need-same-length
 same-length c = search needs
 
 returns : tie.Need-returns
-returns c = let a = c .before .before .before .before .before .before .before .before .before .before .before .before .args in state-written (a .d) (now (a .state)) (c .before .before .before .before .before .before .before .before .before .before .before .before .pre) (c .before .before .before .before .before .before .write-front .ensures) (c .before .before .write-rest .ensures)
+returns c =
+    let a = c .before .before .before .before .before .before .before .before .before .before .before .before .args in
+    let pre = c .before .before .before .before .before .before .before .before .before .before .before .before .pre in
+    let write-front = c .before .before .before .before .before .before .write-front in
+    let write-rest = c .before .before .write-rest in
+    state-written (a .d) (now (a .state)) (pre) (write-front .ensures) (write-rest .ensures)
 
 pub write-state-spec : {M : Type 1} → statement M
 write-state-spec =

@@ -13,12 +13,16 @@ open-requires c κs = search needs
 returns : tie.Need-returns
 returns c =
     let a = c .before .before .before .before .before .before .args in
-    open-refused (settings (a .mode) (a .format) (a .align) (a .active) (a .code) (a .mask) (a .events) (a .slots) (a .tx) (a .places)) (now (a .state)) (lends (now (a .queue)) (now (a .send)) []) (c .before .before .«open» .ensures) (c .if1 .taken)
+    let opened = c .before .before .«open» in
+    open-refused (settings (a .mode) (a .format) (a .align) (a .active) (a .code) (a .mask) (a .events) (a .slots) (a .tx) (a .places)) (now (a .state))
+    (lends (now (a .queue)) (now (a .send)) []) (opened .ensures) (c .if1 .taken)
 
 returns-2 : tie.Need-returns-2
 returns-2 c =
     let a = c .before .before .before .before .before .before .before .args in
-    open-unkept (settings (a .mode) (a .format) (a .align) (a .active) (a .code) (a .mask) (a .events) (a .slots) (a .tx) (a .places)) (now (a .state)) (lends (now (a .queue)) (now (a .send)) []) (c .before .before .before .«open» .ensures) (c .before .if1 .left) (c .if2 .taken)
+    let opened = c .before .before .before .«open» in
+    open-unkept (settings (a .mode) (a .format) (a .align) (a .active) (a .code) (a .mask) (a .events) (a .slots) (a .tx) (a .places)) (now (a .state))
+    (lends (now (a .queue)) (now (a .send)) []) (opened .ensures) (c .before .if1 .left) (c .if2 .taken)
 
 write-state-requires : tie.Need-write-state-requires
 write-state-requires c κs = search needs
@@ -29,7 +33,12 @@ same-length c = search needs
 returns-3 : tie.Need-returns-3
 returns-3 c =
     let a = c .before .before .before .before .before .before .before .before .before .before .before .before .args in
-    open-kept (settings (a .mode) (a .format) (a .align) (a .active) (a .code) (a .mask) (a .events) (a .slots) (a .tx) (a .places)) (now (a .state)) (lends (now (a .queue)) (now (a .send)) []) (c .before .before .before .before .before .before .before .before .«open» .ensures) (c .before .before .before .before .before .before .if1 .left) (c .before .before .before .before .before .if2 .left) (c .before .before .write-state .ensures)
+    let opened = c .before .before .before .before .before .before .before .before .«open» in
+    let if1 = c .before .before .before .before .before .before .if1 in
+    let if2 = c .before .before .before .before .before .if2 in
+    let write-state = c .before .before .write-state in
+    open-kept (settings (a .mode) (a .format) (a .align) (a .active) (a .code) (a .mask) (a .events) (a .slots) (a .tx) (a .places)) (now (a .state))
+    (lends (now (a .queue)) (now (a .send)) []) (opened .ensures) (if1 .left) (if2 .left) (write-state .ensures)
 
 pub sv-open-spec : {M : Type 1} → statement M
 sv-open-spec =

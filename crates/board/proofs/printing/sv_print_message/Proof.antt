@@ -16,7 +16,8 @@ is-state-requires c κs = search needs
 returns : tie.Need-returns
 returns c =
     let a = c .before .before .before .before .args in
-    not-print (messagePrinted (message (a .id) (a .format) (a .rtr) (a .dlc) (now (a .bytes)))) (now (a .state)) (lends [] [] (now (a .out))) (denied (c .before .is-state .ensures) (c .if1 .taken)) (now (a .length))
+    not-print (messagePrinted (message (a .id) (a .format) (a .rtr) (a .dlc) (now (a .bytes)))) (now (a .state)) (lends [] [] (now (a .out)))
+    (denied (c .before .is-state .ensures) (c .if1 .taken)) (now (a .length))
 
 device-in-requires : tie.Need-device-in-requires
 device-in-requires c κs = state-long _ (said (c .before .is-state .ensures) (c .if1 .left))
@@ -36,8 +37,13 @@ same-length c = search needs
 returns-2 : tie.Need-returns-2
 returns-2 c =
     let a = c .before .before .before .before .before .before .before .before .before .before .before .before .args in
-    print-called (messagePrinted (message (a .id) (a .format) (a .rtr) (a .dlc) (now (a .bytes)))) (now (a .state)) (lends [] [] (now (a .out))) (said (c .before .before .before .before .before .before .before .before .before .is-state .ensures) (c .before .before .before .before .before .before .before .before .if1 .left)) (c .before .before .before .before .before .before .before .device-in .ensures)
-    (rw (c .before .before .before .before .before .before .message .ensures) at (c .before .before .before .before .print-message .ensures)) (c .hand .ensures)
+    let is-state = c .before .before .before .before .before .before .before .before .before .is-state in
+    let if1 = c .before .before .before .before .before .before .before .before .if1 in
+    let device-in = c .before .before .before .before .before .before .before .device-in in
+    let made = c .before .before .before .before .before .before .message in
+    let print-message = c .before .before .before .before .print-message in
+    print-called (messagePrinted (message (a .id) (a .format) (a .rtr) (a .dlc) (now (a .bytes)))) (now (a .state)) (lends [] [] (now (a .out)))
+    (said (is-state .ensures) (if1 .left)) (device-in .ensures) (rw (made .ensures) at (print-message .ensures)) (c .hand .ensures)
 
 pub sv-print-message-spec : {M : Type 1} → statement M
 sv-print-message-spec =

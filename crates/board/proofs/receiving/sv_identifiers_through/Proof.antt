@@ -29,8 +29,12 @@ hand-number-requires c κs = search needs
 returns-2 : tie.Need-returns-2
 returns-2 c =
     let a = c .before .before .before .before .before .before .before .args in
-    count-called (through (a .format)) (now (a .state)) (lends [] [] []) (said (c .before .before .before .before .before .is-state .ensures) (c .before .before .before .before .if1 .left)) (c .before .before .before .device-in .ensures)
-    (c .before .before .identifiers-through .ensures) (c .hand-number .ensures)
+    let is-state = c .before .before .before .before .before .is-state in
+    let if1 = c .before .before .before .before .if1 in
+    let device-in = c .before .before .before .device-in in
+    let identifiers-through = c .before .before .identifiers-through in
+    count-called (through (a .format)) (now (a .state)) (lends [] [] []) (said (is-state .ensures) (if1 .left)) (device-in .ensures) (identifiers-through .ensures)
+    (c .hand-number .ensures)
 
 pub sv-identifiers-through-spec : {M : Type 1} → statement M
 sv-identifiers-through-spec =

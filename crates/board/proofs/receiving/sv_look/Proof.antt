@@ -13,7 +13,9 @@ is-state-requires : tie.Need-is-state-requires
 is-state-requires c κs = search needs
 
 returns : tie.Need-returns
-returns c = let a = c .before .before .before .before .args in not-look (a .p) (now (a .state)) (now (a .queue)) (now (a .offset)) (denied (c .before .is-state .ensures) (c .if1 .taken))
+returns c =
+    let a = c .before .before .before .before .args in
+    not-look (a .p) (now (a .state)) (now (a .queue)) (now (a .offset)) (denied (c .before .is-state .ensures) (c .if1 .taken))
 
 device-in-requires : tie.Need-device-in-requires
 device-in-requires c κs = state-long _ (said (c .before .is-state .ensures) (c .if1 .left))
@@ -24,13 +26,20 @@ look-number-requires c κs = search needs
 returns-2 : tie.Need-returns-2
 returns-2 c =
     let a = c .before .before .before .before .before .before .before .args in
-    look-refused (a .p) (now (a .state)) (now (a .queue)) (said (c .before .before .before .before .is-state .ensures) (c .before .before .before .if1 .left)) (c .before .before .device-in .ensures) _ (c .before .look-number .ensures) (now (a .offset)) (c .if2 .taken)
+    let is-state = c .before .before .before .before .is-state in
+    let if1 = c .before .before .before .if1 in
+    let device-in = c .before .before .device-in in
+    look-refused (a .p) (now (a .state)) (now (a .queue)) (said (is-state .ensures) (if1 .left)) (device-in .ensures) _ (c .before .look-number .ensures) (now (a .offset))
+    (c .if2 .taken)
 
 slot-of-requires : tie.Need-slot-of-requires
 slot-of-requires c κs =
     let a = c .before .before .before .before .before .before .before .before .before .args in
-    let d = c .before .before .before .before .device-in .result in
-    let g = look-good (d .receive) (now (a .queue)) (a .p) (look-taken (a .p) d (now (a .queue)) (sym (c .before .before .before .look-number .ensures) ∙ c .before .before .if2 .left)) in
+    let device-in = c .before .before .before .before .device-in in
+    let look-number = c .before .before .before .look-number in
+    let if2 = c .before .before .if2 in
+    let d = device-in .result in
+    let g = look-good (d .receive) (now (a .queue)) (a .p) (look-taken (a .p) d (now (a .queue)) (sym (look-number .ensures) ∙ if2 .left)) in
     let f = ring-of (d .receive) (g .0) in
     (f .within, f .first-in, omega (arith, f .count-in, g .2))
 
@@ -43,7 +52,13 @@ mul-offset c = search needs
 returns-3 : tie.Need-returns-3
 returns-3 c =
     let a = c .before .before .before .before .before .before .before .before .before .before .args in
-    look-shown (a .p) (now (a .state)) (now (a .queue)) (said (c .before .before .before .before .before .before .before .is-state .ensures) (c .before .before .before .before .before .before .if1 .left)) (c .before .before .before .before .before .device-in .ensures) _ (c .before .before .before .before .look-number .ensures) (now (a .offset)) _ (c .before .before .before .if2 .left) (c .slot-of .ensures)
+    let is-state = c .before .before .before .before .before .before .before .is-state in
+    let if1 = c .before .before .before .before .before .before .if1 in
+    let device-in = c .before .before .before .before .before .device-in in
+    let look-number = c .before .before .before .before .look-number in
+    let if2 = c .before .before .before .if2 in
+    look-shown (a .p) (now (a .state)) (now (a .queue)) (said (is-state .ensures) (if1 .left)) (device-in .ensures) _ (look-number .ensures) (now (a .offset)) _ (if2 .left)
+    (c .slot-of .ensures)
 
 pub sv-look-spec : {M : Type 1} → statement M
 sv-look-spec =

@@ -21,7 +21,9 @@ look-number-requires c κs = search needs
 returns-2 : tie.Need-returns-2
 returns-2 c =
     let a = c .before .before .before .before .before .before .args in
-    look-number (a .p) (now (a .state)) (now (a .queue)) (said (c .before .before .before .is-state .ensures) (c .before .before .if1 .left)) (c .before .device-in .ensures) _ (c .look-number .ensures)
+    let is-state = c .before .before .before .is-state in
+    let if1 = c .before .before .if1 in
+    look-number (a .p) (now (a .state)) (now (a .queue)) (said (is-state .ensures) (if1 .left)) (c .before .device-in .ensures) _ (c .look-number .ensures)
 
 pub sv-look-number-spec : {M : Type 1} → statement M
 sv-look-number-spec =

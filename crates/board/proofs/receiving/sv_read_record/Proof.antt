@@ -30,16 +30,25 @@ hand-event-requires : tie.Need-hand-event-requires
 hand-event-requires c κs = search needs
 
 leave-requires : tie.Need-leave-requires
-leave-requires c κs = state-long _ (said (c .before .before .before .before .before .before .before .before .before .is-state .ensures) (c .before .before .before .before .before .before .before .before .if1 .left))
+leave-requires c κs =
+    let is-state = c .before .before .before .before .before .before .before .before .is-state in
+    let if1 = c .before .before .before .before .before .before .before .if1 in
+    state-long _ (said (is-state .ensures) (if1 .left))
 
 same-length-2 : tie.Need-same-length-2
 same-length-2 c = search needs
 
 returns-2 : tie.Need-returns-2
 returns-2 c =
-    let a = c .before .before .before .before .before .before .before .before .before .before .before .before .before .before .before .before .args in
-    record-called recordRead (now (a .state)) (lends (now (a .queue)) [] []) (said (c .before .before .before .before .before .before .before .before .before .before .before .before .is-state .ensures) (c .before .before .before .before .before .before .before .before .before .before .before .if1 .left)) (c .before .before .before .before .before .before .before .before .before .device-in .ensures)
-    (c .before .before .before .before .before .before .before .before .read-record .ensures) (c .before .before .before .before .before .hand-event .ensures) (c .before .before .leave .ensures)
+    let a = c .before .before .before .before .before .before .before .before .before .before .before .before .before .before .before .args in
+    let is-state = c .before .before .before .before .before .before .before .before .before .before .before .is-state in
+    let if1 = c .before .before .before .before .before .before .before .before .before .before .if1 in
+    let device-in = c .before .before .before .before .before .before .before .before .device-in in
+    let read-record = c .before .before .before .before .before .before .before .read-record in
+    let hand-event = c .before .before .before .before .hand-event in
+    let leave = c .before .before .leave in
+    record-called recordRead (now (a .state)) (lends (now (a .queue)) [] []) (said (is-state .ensures) (if1 .left)) (device-in .ensures) (read-record .ensures)
+    (hand-event .ensures) (leave .ensures)
 
 pub sv-read-record-spec : {M : Type 1} → statement M
 sv-read-record-spec =

@@ -30,7 +30,10 @@ hand-requires : tie.Need-hand-requires
 hand-requires c κs = search needs
 
 leave-requires : tie.Need-leave-requires
-leave-requires c κs = state-long _ (said (c .before .before .before .before .before .before .before .before .before .before .before .is-state .ensures) (c .before .before .before .before .before .before .before .before .before .before .if1 .left))
+leave-requires c κs =
+    let is-state = c .before .before .before .before .before .before .before .before .before .before .is-state in
+    let if1 = c .before .before .before .before .before .before .before .before .before .if1 in
+    state-long _ (said (is-state .ensures) (if1 .left))
 
 same-length-2 : tie.Need-same-length-2
 same-length-2 c = search needs
@@ -40,9 +43,15 @@ same-length-3 c = search needs
 
 returns-2 : tie.Need-returns-2
 returns-2 c =
-    let a = c .before .before .before .before .before .before .before .before .before .before .before .before .before .before .before .before .before .before .before .args in
-    text-called textRead (now (a .state)) (lends (now (a .queue)) [] (now (a .out))) (said (c .before .before .before .before .before .before .before .before .before .before .before .before .before .before .is-state .ensures) (c .before .before .before .before .before .before .before .before .before .before .before .before .before .if1 .left)) (c .before .before .before .before .before .before .before .before .before .before .before .device-in .ensures)
-    (c .before .before .before .before .before .before .before .before .before .read-text .ensures) (c .before .before .before .before .before .hand .ensures) (c .before .before .leave .ensures)
+    let a = c .before .before .before .before .before .before .before .before .before .before .before .before .before .before .before .before .before .before .args in
+    let is-state = c .before .before .before .before .before .before .before .before .before .before .before .before .before .is-state in
+    let if1 = c .before .before .before .before .before .before .before .before .before .before .before .before .if1 in
+    let device-in = c .before .before .before .before .before .before .before .before .before .before .device-in in
+    let read-text = c .before .before .before .before .before .before .before .before .read-text in
+    let hand = c .before .before .before .before .hand in
+    let leave = c .before .before .leave in
+    text-called textRead (now (a .state)) (lends (now (a .queue)) [] (now (a .out))) (said (is-state .ensures) (if1 .left)) (device-in .ensures) (read-text .ensures)
+    (hand .ensures) (leave .ensures)
 
 pub sv-read-text-spec : {M : Type 1} → statement M
 sv-read-text-spec =

@@ -27,7 +27,10 @@ send-text-requires : tie.Need-send-text-requires
 send-text-requires c κs = search needs
 
 leave-requires : tie.Need-leave-requires
-leave-requires c κs = state-long _ (said (c .before .before .before .before .before .before .before .before .before .is-state .ensures) (c .before .before .before .before .before .before .before .before .if1 .left))
+leave-requires c κs =
+    let is-state = c .before .before .before .before .before .before .before .before .is-state in
+    let if1 = c .before .before .before .before .before .before .before .if1 in
+    state-long _ (said (is-state .ensures) (if1 .left))
 
 same-length-2 : tie.Need-same-length-2
 same-length-2 c = search needs
@@ -37,9 +40,14 @@ same-length-3 c = search needs
 
 returns-2 : tie.Need-returns-2
 returns-2 c =
-    let a = c .before .before .before .before .before .before .before .before .before .before .before .before .before .before .before .before .before .args in
-    send-text-called (textSent (now (a .text))) (now (a .state)) (lends [] (now (a .send)) []) (said (c .before .before .before .before .before .before .before .before .before .before .before .before .is-state .ensures) (c .before .before .before .before .before .before .before .before .before .before .before .if1 .left)) (c .before .before .before .before .before .before .before .before .before .device-in .ensures)
-    (c .before .before .before .before .before .before .before .send-text .ensures) (c .before .before .leave .ensures)
+    let a = c .before .before .before .before .before .before .before .before .before .before .before .before .before .before .before .before .args in
+    let is-state = c .before .before .before .before .before .before .before .before .before .before .before .is-state in
+    let if1 = c .before .before .before .before .before .before .before .before .before .before .if1 in
+    let device-in = c .before .before .before .before .before .before .before .before .device-in in
+    let send-text = c .before .before .before .before .before .before .send-text in
+    let leave = c .before .before .leave in
+    send-text-called (textSent (now (a .text))) (now (a .state)) (lends [] (now (a .send)) []) (said (is-state .ensures) (if1 .left)) (device-in .ensures) (send-text .ensures)
+    (leave .ensures)
 
 pub sv-send-text-spec : {M : Type 1} → statement M
 sv-send-text-spec =
