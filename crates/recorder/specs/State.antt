@@ -22,9 +22,9 @@ goodShared s = leb (s .mode) 1 && leb (s .format) 2 && modeTakes (s .mode) (s .f
 unfoldable pub good : Device → Bool
 good d = goodShared (d .shared) && goodReceive (d .receive) && goodSend (d .send)
 
--- format 0 is the default: standard in mode 0, extended in mode 1
+-- format 0 is the channel's default format; where that is 0 as well: standard in mode 0, extended in mode 1
 unfoldable pub formatOf : Shared → ℕ → ℕ
-formatOf s format = pick (eqb format 0) (pick (eqb (s .mode) 0) 1 2) format
+formatOf s format = pick (eqb format 0) (pick (eqb (s .format) 0) (pick (eqb (s .mode) 0) 1 2) (s .format)) format
 
 -- the device that opening gives: both rings empty, first and pending 0, register empty
 abbrev pub fresh : Settings → Device

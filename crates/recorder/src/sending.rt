@@ -12,12 +12,15 @@ ghost use Rattle.recorder.specs.State.{formatOf};
 ghost use Rattle.recorder.specs.Outcomes.{lends, SendMet};
 ghost use Rattle.recorder.specs.Sending.{put, sent, textSent};
 
-// A format of a call, 0 being the default.
+// A format of a call, 0 being the channel's default.
 fn format_of(s: Shared, format: u32) -> u32
     ensures { λ f. ⌜ f ≡ formatOf s format ⌝ }
 {
     if format != 0 {
         return format;
+    }
+    if s.format != 0 {
+        return s.format;
     }
     if s.mode == 0 {
         return 1;

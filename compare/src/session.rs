@@ -1,0 +1,330 @@
+//! A session: one opening and what follows it, on both sides. In a clean one only the calls write state and tables.
+
+use crate::call::{is_refusal, Call, Lengths, KINDS, TOO_FEW_DATA};
+use crate::draw::Draw;
+use crate::making;
+use crate::mood::Mood;
+use crate::sides::Sides;
+use crate::state::{set_word, STATE};
+use crate::sum::{raised, Found, Sum};
+use crate::tally::{Deep, Tally};
+use crate::texts::values_before_end;
+use independent::{Device, Settings};
+
+pub struct Session<'run> {
+    draw: &'run mut Draw,
+    tally: &'run mut Tally,
+    sides: Sides,
+    full: Lengths,
+    clean: bool,
+    sum: Sum,
+    stream: Vec<u8>,
+}
+
+impl<'run> Session<'run> {
+    /// Runs one session; an error says what differs, at which call.
+    pub fn run(draw: &'run mut Draw, tally: &'run mut Tally) -> Result<(), String> {
+        let clean = draw.one_in(3);
+        let given = making::settings(draw);
+        let (slots, places) = (given.queue_capacity as usize, given.send_capacity as usize);
+        let spare = |draw: &mut Draw| if draw.one_in(2) { 0 } else { draw.size_below(70) };
+        let full = Lengths { queue: 32 * slots + spare(draw), send: 16 * places + spare(draw) };
+        let sides = Sides::new(draw, full.queue, full.send);
+        let stream = Vec::new();
+        let mut session = Session { draw, tally, sides, full, clean, sum: Sum::default(), stream };
+        session.tally.sessions += 1;
+        session.tally.clean += u64::from(clean);
+        session.open(&given)?;
+        let most = (6 * (slots + places) + 200).min(12_000);
+        let calls = 50 + session.draw.size_below(most);
+        session.calls(calls)?;
+        session.check_sum()
+    }
+
+    /// Bad openings first, which leave any bytes in the state.
+    fn open(&mut self, given: &Settings) -> Result<(), String> {
+        if !self.clean {
+            let bad = making::bad_settings(self.draw);
+            self.call(&Call::Open(bad), self.full)?;
+            self.odd_lengths(&Call::Open(*given))?;
+        }
+        self.call(&Call::Open(*given), self.full)?;
+        if !self.clean && self.draw.one_in(3) {
+            self.plant();
+        }
+        Ok(())
+    }
+
+    fn calls(&mut self, count: usize) -> Result<(), String> {
+        let mut mood = Mood::new(self.draw, &self.device());
+        for place in 0..count {
+            if mood.is_over(self.draw, &self.device()) {
+                mood = Mood::new(self.draw, &self.device());
+            }
+            let call = mood.call(self.draw, &self.device(), &self.stream);
+            self.step(&call)?;
+            if place % 64 == 0 {
+                self.check_sum()?;
+            }
+        }
+        Ok(())
+    }
+
+    /// Between the steps the state is always a possible one.
+    fn device(&self) -> Device {
+        *self.sides.device().expect("a state")
+    }
+
+    /// One call, in a session that is not clean at times with something odd about it.
+    fn step(&mut self, call: &Call) -> Result<(), String> {
+        if self.clean {
+            // Another opening would begin another sum.
+            return if let Call::Open(_) = call { Ok(()) } else { self.call(call, self.full) };
+        }
+        match self.draw.below(80) {
+            0 => self.damage_tables(),
+            1 | 2 => return self.odd_state(call),
+            3 => return self.odd_lengths(call),
+            _ => {}
+        }
+        // A damaged slot would otherwise be met at every read or take from here on.
+        if self.made(call, self.full)? == 14 && self.draw.one_in(3) {
+            self.mend_oldest();
+        }
+        Ok(())
+    }
+
+    /// Good records in both oldest slots.
+    fn mend_oldest(&mut self) {
+        let device = self.device();
+        let oldest = [32 * device.receive.ring.first as usize, 16 * device.send.ring.first as usize];
+        let (event, message) = (making::event_record(self.draw), making::message_record(self.draw));
+        self.sides.write_tables(|queue, send| {
+            queue[oldest[0]..oldest[0] + 32].copy_from_slice(&event);
+            send[oldest[1]..oldest[1] + 16].copy_from_slice(&message);
+        });
+    }
+
+    /// Overwrites bytes of the slots in use, or anywhere.
+    fn damage_tables(&mut self) {
+        let device = self.device();
+        let oldest = [32 * device.receive.ring.first as usize, 16 * device.send.ring.first as usize];
+        let seed = self.draw.next();
+        self.sides.write_tables(|queue, send| {
+            let mut draw = Draw::new(seed);
+            if draw.one_in(2) {
+                making::damage(&mut draw, &mut queue[oldest[0]..oldest[0] + 32]);
+                making::damage(&mut draw, &mut send[oldest[1]..oldest[1] + 16]);
+            } else {
+                making::damage(&mut draw, queue);
+                making::damage(&mut draw, send);
+            }
+        });
+    }
+
+    /// The call on a state with one or all numbers overwritten. A refused state is put back; another one stays, if
+    /// its tables still fit.
+    fn odd_state(&mut self, call: &Call) -> Result<(), String> {
+        let before = self.sides.second.state.bytes();
+        let mut bytes = before.clone();
+        let mut met = Deep::StateNumbers;
+        match self.draw.below(6) {
+            0 => self.draw.fill(&mut bytes),
+            1 => {
+                set_word(&mut bytes, 60, 2 + self.draw.any_word() % 1_000_000);
+                met = Deep::HeldAboveOne;
+            }
+            2 => self.draw.fill(&mut bytes[64..]),
+            _ => {
+                let place = 4 * self.draw.size_below(20);
+                let word = if self.draw.one_in(2) { self.draw.any_word() } else { self.draw.word_below(9) };
+                set_word(&mut bytes, place, word);
+            }
+        }
+        self.sides.set_state(self.draw, &bytes);
+        let number = self.made(call, self.full)?;
+        if number == 2 {
+            self.tally.deep(met);
+        }
+        if !self.is_usable() {
+            self.sides.set_state(self.draw, &before);
+        }
+        Ok(())
+    }
+
+    /// Whether the state is one that the whole tables fit, asked of the second implementation itself.
+    fn is_usable(&self) -> bool {
+        let Some(device) = self.sides.device() else {
+            return false;
+        };
+        let mut asked = *device;
+        let number = asked.take(0, self.sides.second.send.part(), &mut self.sides.second.queue.part().to_vec()).0;
+        number != 2
+    }
+
+    /// The call with a state of a wrong length or with a table that is too short, or only just long enough.
+    fn odd_lengths(&mut self, call: &Call) -> Result<(), String> {
+        let before = self.sides.second.state.bytes();
+        let mut lengths = self.full;
+        let met = match self.draw.below(3) {
+            0 => {
+                let length = self.draw.pick(&[0, 1, 64, 87, 89, 96, 176]);
+                let bytes: Vec<u8> = before.iter().copied().cycle().take(length).collect();
+                self.sides.set_state(self.draw, &bytes);
+                Deep::StateLength
+            }
+            1 => {
+                lengths.queue = shorter(self.draw, self.full.queue, 32);
+                Deep::ShortQueue
+            }
+            _ => {
+                lengths.send = shorter(self.draw, self.full.send, 16);
+                Deep::ShortSend
+            }
+        };
+        if self.made(call, lengths)? == 2 {
+            self.tally.deep(met);
+        }
+        if self.sides.second.state.bytes().len() != STATE {
+            self.sides.set_state(self.draw, &before);
+        }
+        Ok(())
+    }
+
+    /// A state far along: rings anywhere, a register, a pending count near its limit, tables of good records.
+    fn plant(&mut self) {
+        let device = self.device();
+        let mut bytes = self.sides.second.state.bytes();
+        for (at, ring) in [(32, device.receive.ring), (52, device.send.ring)] {
+            set_word(&mut bytes, at, self.draw.word_below(ring.capacity));
+            let short = if self.draw.one_in(2) { 0 } else { self.draw.word_below(ring.capacity + 1) };
+            set_word(&mut bytes, at + 4, ring.capacity - short);
+        }
+        let pending = self.draw.pick(&[0, 1, u32::MAX - 2, u32::MAX - 1, u32::MAX]);
+        set_word(&mut bytes, 40, pending);
+        let held = making::kept_frame(self.draw);
+        set_word(&mut bytes, 60, self.draw.word_below(2));
+        for (at, word) in [(64, held.id), (68, held.format), (72, held.rtr), (76, held.dlc)] {
+            set_word(&mut bytes, at, word);
+        }
+        bytes[80..].copy_from_slice(&held.data);
+        self.sides.set_state(self.draw, &bytes);
+        let seed = self.draw.next();
+        self.sides.write_tables(|queue, send| {
+            let mut draw = Draw::new(seed);
+            queue.chunks_exact_mut(32).for_each(|slot| slot.copy_from_slice(&making::event_record(&mut draw)));
+            send.chunks_exact_mut(16).for_each(|slot| slot.copy_from_slice(&making::message_record(&mut draw)));
+        });
+    }
+
+    fn call(&mut self, call: &Call, lengths: Lengths) -> Result<(), String> {
+        let number = self.made(call, lengths)?;
+        let possible = !(self.clean && (number == 2 || number == 14 && call.kind() < 16));
+        if possible {
+            return Ok(());
+        }
+        Err(format!("call {call:?}\n  refused {number}, though only the calls wrote state and tables"))
+    }
+
+    /// The call on both sides, compared and counted.
+    fn made(&mut self, call: &Call, lengths: Lengths) -> Result<u32, String> {
+        let found = self.sides.device().copied();
+        let clean_found = match (self.clean, &call, found) {
+            (true, Call::Open(_), _) | (false, _, _) | (_, _, None) => None,
+            (true, _, Some(device)) => Some(Found::before(&device, self.sides.second.queue.part())),
+        };
+        let number = self.sides.call(self.draw, call, lengths).map_err(|told| format!("call {call:?}\n{told}"))?;
+        if !KINDS[call.kind()].1.contains(&number) {
+            return Err(format!("call {call:?}\n  answered {number}, which is not among its numbers"));
+        }
+        if let Some(found) = clean_found {
+            self.sum.after(call, number, &found, &self.device());
+        }
+        self.keep_stream(call, number);
+        self.count(call, number, found);
+        Ok(number)
+    }
+
+    /// The rest of a text is handed on to the next text send.
+    fn keep_stream(&mut self, call: &Call, number: u32) {
+        let Call::SendText { text } = call else {
+            return;
+        };
+        let line = text.iter().position(|byte| matches!(byte, b'\r' | b'\n' | 0)).unwrap_or(text.len());
+        let ends = text[line..].iter().take_while(|byte| matches!(byte, b'\r' | b'\n' | 0)).count();
+        let used = if matches!(number, 2 | 5 | 6) { text.len() } else { line + ends };
+        self.stream = text[used..].to_vec();
+    }
+
+    fn check_sum(&mut self) -> Result<(), String> {
+        if !self.clean {
+            return Ok(());
+        }
+        self.tally.deep(Deep::SumChecked);
+        match self.sum.wrong(&self.device(), self.sides.second.queue.part()) {
+            None => Ok(()),
+            Some(told) => Err(format!("the sum does not hold: {told}")),
+        }
+    }
+
+    fn count(&mut self, call: &Call, number: u32, was: Option<Device>) {
+        let counted = match call {
+            Call::SendText { text } if number == 7 && values_before_end(text) >= 3 => TOO_FEW_DATA,
+            _ => number,
+        };
+        self.tally.answer(call.kind(), counted);
+        let (Some(was), Some(now)) = (was, self.sides.device().copied()) else {
+            return;
+        };
+        if is_refusal(number) {
+            return;
+        }
+        self.count_rings(&now);
+        self.count_call(call, number, &was, &now);
+    }
+
+    fn count_rings(&mut self, now: &Device) {
+        let (queue, buffer) = (now.receive.ring, now.send.ring);
+        let states = [
+            (queue.count == queue.capacity, Deep::QueueFull),
+            (queue.first + queue.count > queue.capacity, Deep::QueueWrapped),
+            (queue.count == 2_048, Deep::LargestQueueFull),
+            (buffer.count == buffer.capacity, Deep::BufferFull),
+            (buffer.first + buffer.count > buffer.capacity, Deep::BufferWrapped),
+            (buffer.count == 1_024, Deep::LargestBufferFull),
+            (now.send.register.is_some(), Deep::RegisterHeld),
+        ];
+        states.iter().filter(|(met, _)| *met).for_each(|(_, deep)| self.tally.deep(*deep));
+    }
+
+    fn count_call(&mut self, call: &Call, number: u32, was: &Device, now: &Device) {
+        let limit = was.receive.pending == u32::MAX && now.receive.pending == u32::MAX;
+        let deep = match call {
+            Call::Raise { .. } if number == 103 && limit => Deep::PendingAtLimit,
+            Call::ReadRecord | Call::ReadText { .. } if self.read_lost(was) > 0 => Deep::LostCountRead,
+            Call::Abort { .. } if was.send.ring.count > 0 => Deep::Purged,
+            Call::Abort { .. } if was.send.register.is_some() => Deep::RaisedByAbort,
+            Call::Take { .. } if raised(call, was, now).is_some() => Deep::RaisedByTake,
+            Call::Done { .. } if raised(call, was, now).is_some() => Deep::RaisedByDone,
+            Call::SetMode { .. } | Call::SetFormat { .. } => Deep::RaisedByChange,
+            _ => return,
+        };
+        self.tally.deep(deep);
+    }
+
+    /// The lost count in the slot that a read took.
+    fn read_lost(&self, was: &Device) -> u32 {
+        let slot = 32 * was.receive.ring.first as usize;
+        crate::state::word_at(self.sides.second.queue.part(), slot + 12)
+    }
+}
+
+/// A table length below the full one: by a byte, by a slot, or any.
+fn shorter(draw: &mut Draw, full: usize, slot: usize) -> usize {
+    match draw.below(4) {
+        0 => full - full % slot,
+        1 => full / slot * slot - 1,
+        2 => full / slot * slot - slot,
+        _ => draw.size_below(full),
+    }
+}

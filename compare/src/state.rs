@@ -1,0 +1,128 @@
+//! The second implementation's device as the 88 bytes that include/salmevidro.h describes.
+
+use independent::{Device, Message, ReceiveSide, Ring, SendSide, Shared};
+
+pub const STATE: usize = 88;
+const HELD_AT: usize = 60;
+const REGISTER_AT: usize = 64;
+
+/// A device, and what stands in the place of a register that holds nothing.
+#[derive(Clone, Debug)]
+pub struct Kept {
+    pub device: Device,
+    pub leftover: [u8; STATE - REGISTER_AT],
+}
+
+/// What a call is lent as its state.
+#[derive(Clone, Debug)]
+pub enum State {
+    Kept(Kept),
+    /// A wrong length, or held above 1.
+    NoState(Vec<u8>),
+}
+
+pub fn word_at(bytes: &[u8], at: usize) -> u32 {
+    u32::from_le_bytes([bytes[at], bytes[at + 1], bytes[at + 2], bytes[at + 3]])
+}
+
+pub fn set_word(bytes: &mut [u8], at: usize, word: u32) {
+    bytes[at..at + 4].copy_from_slice(&word.to_le_bytes());
+}
+
+impl State {
+    pub fn from_bytes(bytes: &[u8]) -> State {
+        if bytes.len() != STATE || word_at(bytes, HELD_AT) > 1 {
+            return State::NoState(bytes.to_vec());
+        }
+        let mut leftover = [0; STATE - REGISTER_AT];
+        leftover.copy_from_slice(&bytes[REGISTER_AT..]);
+        let device = device_in(bytes);
+        State::Kept(Kept { device, leftover })
+    }
+
+    pub fn bytes(&self) -> Vec<u8> {
+        match self {
+            State::Kept(kept) => kept.bytes().to_vec(),
+            State::NoState(bytes) => bytes.clone(),
+        }
+    }
+
+    pub fn device(&self) -> Option<&Device> {
+        match self {
+            State::Kept(kept) => Some(&kept.device),
+            State::NoState(_) => None,
+        }
+    }
+}
+
+impl Kept {
+    /// A device whose empty register is zeros, as opening, done and abort leave it.
+    pub fn with_empty_register(device: Device) -> Kept {
+        let leftover = [0; STATE - REGISTER_AT];
+        Kept { device, leftover }
+    }
+
+    pub fn bytes(&self) -> [u8; STATE] {
+        let (shared, receive, send) = (self.device.shared, self.device.receive, self.device.send);
+        let numbers = [
+            shared.mode,
+            shared.format,
+            shared.align,
+            receive.mask_active,
+            receive.code,
+            receive.mask,
+            receive.event_mask,
+            receive.ring.capacity,
+            receive.ring.first,
+            receive.ring.count,
+            receive.pending,
+            send.tx_mode,
+            send.ring.capacity,
+            send.ring.first,
+            send.ring.count,
+            u32::from(send.register.is_some()),
+        ];
+        let mut bytes = [0; STATE];
+        for (place, number) in numbers.iter().enumerate() {
+            set_word(&mut bytes, 4 * place, *number);
+        }
+        bytes[REGISTER_AT..].copy_from_slice(&self.leftover);
+        if let Some(held) = send.register {
+            let header = [held.id, held.format, held.rtr, held.dlc];
+            for (place, number) in header.iter().enumerate() {
+                set_word(&mut bytes, REGISTER_AT + 4 * place, *number);
+            }
+            bytes[80..].copy_from_slice(&held.data);
+        }
+        bytes
+    }
+}
+
+fn device_in(bytes: &[u8]) -> Device {
+    let number = |place: usize| word_at(bytes, 4 * place);
+    let ring = |place: usize| Ring { capacity: number(place), first: number(place + 1), count: number(place + 2) };
+    Device {
+        shared: Shared { mode: number(0), format: number(1), align: number(2) },
+        receive: ReceiveSide {
+            mask_active: number(3),
+            code: number(4),
+            mask: number(5),
+            event_mask: number(6),
+            ring: ring(7),
+            pending: number(10),
+        },
+        send: SendSide { tx_mode: number(11), ring: ring(12), register: (number(15) == 1).then(|| register_in(bytes)) },
+    }
+}
+
+fn register_in(bytes: &[u8]) -> Message {
+    let mut data = [0; 8];
+    data.copy_from_slice(&bytes[80..]);
+    Message {
+        id: word_at(bytes, 64),
+        format: word_at(bytes, 68),
+        rtr: word_at(bytes, 72),
+        dlc: word_at(bytes, 76),
+        data,
+    }
+}
