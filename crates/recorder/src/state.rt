@@ -148,7 +148,7 @@ pub fn note(d: Device, e: Event, table: &mut [u8]) -> Device
 {
     let shared = d.shared;
     let receive = d.receive;
-    let raised = queue::raising::raise(shared.mode, shared.align, receive, e, table);
-    let next = raised.receive;
+    let met = queue::raising::raise(shared.mode, shared.align, receive, e, table);
+    let next = queue::raising::after_raise(receive, met);
     with_receive(d, next)
 }
