@@ -8,7 +8,7 @@ use lib.ListN.{length, getD, drop, set, replicate, length-set, drop-of-length-le
 use lib.Seq.{sets, set-out}
 use Rattle.digits.specs.Reading.{byteKind, capped}
 use Rattle.message_text.specs.Numbers.{Place, between, within, ended, grown, isEnd, isDigit, numbersFrom, numbers, beforeEnd}
-use Rattle.message_text.specs.Scan.{keptMore, keptFrom, keptOf, ScanMet}
+use Rattle.message_text.specs.Scan.{kept, keptMore, keptFrom, keptOf, ScanMet}
 use Rattle.message_text.specs.declared.Kept.{Kept}
 use Rattle.common.proofs.Choices.{by-test}
 use Rattle.message_text.proofs.Ends.{here, before-more}
@@ -51,9 +51,6 @@ same-capped v w q (b ∷ t) =
 sets-out : (at : List ℕ) (n : ℕ) (xs : List ℕ) → length at ≤ n → sets at n xs ≡ at
 sets-out at n [] h = refl
 sets-out at n (x ∷ xs) h = rw (set-out at n x h) (sets-out at (suc n) xs (omega arith))
-
-abbrev kept : ℕ → List ℕ → Kept
-kept n at = record { count = n; at = at }
 
 -- the twelfth number is only counted
 pub keep-counted : (k : Kept) (v : ℕ) → length (k .at) ≡ 11 → 11 ≤ k .count → kept 12 (k .at) ≡ keptMore k v

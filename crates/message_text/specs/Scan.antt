@@ -9,13 +9,17 @@ use Rattle.message_text.specs.Numbers.{numbers, beforeEnd}
 use Rattle.message_text.specs.declared.Kept.{Kept}
 use Rattle.message_text.specs.declared.Scanned.{Scanned}
 
+-- n numbers counted, and those that are kept of them
+abbrev pub kept : ℕ → List ℕ → Kept
+kept n at = record { count = n; at = at }
+
 -- one number more behind those that are kept
 abbrev pub keptMore : Kept → ℕ → Kept
-keptMore k v = record { count = min 12 (k .count + 1); at = set (k .at) (k .count) v }
+keptMore k v = kept (min 12 (k .count + 1)) (set (k .at) (k .count) v)
 
 -- numbers kept behind n that are kept already
 unfoldable pub keptFrom : List ℕ → ℕ → List ℕ → Kept
-keptFrom at n values = record { count = min 12 (n + length values); at = sets at n values }
+keptFrom at n values = kept (min 12 (n + length values)) (sets at n values)
 
 -- a text's numbers, kept
 abbrev pub keptOf : List ℕ → Kept

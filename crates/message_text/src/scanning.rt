@@ -6,32 +6,26 @@ ghost use Prim.Native.Nat.{_+_, _≤_};
 ghost use lib.ListN.{length, drop};
 ghost use Rattle.digits.specs.Reading.{capped};
 ghost use Rattle.message_text.specs.Numbers.{numbers, beforeEnd, endRun};
-ghost use Rattle.message_text.specs.Scan.{keptMore, ScanMet};
+ghost use Rattle.message_text.specs.Scan.{kept, keptMore, ScanMet};
 
-// The number v kept behind the others; the twelfth is only counted.
-pub fn keep(kept: Kept, v: u64) -> Kept
-    ensures { λ r. ⌜ r ≡ keptMore kept v ⌝ }
+// The number v kept behind n others, and how many there are then; the twelfth is only counted.
+fn keep(at: &mut [u64; 11], n: usize, v: u64) -> usize
+    requires { ⌜ length (now at) ≡ 11 ⌝ }
+    ensures { λ m. ⌜ kept m (now (at .exit)) ≡ keptMore (kept n (now (at .entry))) v ⌝ }
 {
-    let n = kept.count;
-    let mut at = kept.at;
     if 11 <= n {
-        return Kept { count: 12, at: at };
+        return 12;
     }
     at[n] = v;
-    Kept {
-        count: n + 1,
-        at: at,
-    }
+    n + 1
 }
 
 // The numbers of a text, up to its first end or through its twelfth number.
 pub fn scan(text: &[u8]) -> Scanned
     ensures { λ r. ⌜ ScanMet (now (text .entry)) r ⌝ }
 {
-    let mut kept = Kept {
-        count: 0,
-        at: [0u64; 11],
-    };
+    let mut at = [0u64; 11];
+    let mut n: usize = 0;
     let mut i: usize = 0;
     'numbers: while i < text.len() {
         let k = digits::reading::byte_kind(text[i]);
@@ -44,7 +38,7 @@ pub fn scan(text: &[u8]) -> Scanned
             'digits: while i < text.len() {
                 let d = digits::reading::byte_kind(text[i]);
                 if d == 17 {
-                    kept = keep(kept, v);
+                    n = keep(&mut at, n, v);
                     break 'numbers;
                 }
                 i += 1;
@@ -53,12 +47,13 @@ pub fn scan(text: &[u8]) -> Scanned
                 }
                 v = digits::reading::with_digit(v, d);
             }
-            kept = keep(kept, v);
-            if kept.count == 12 {
+            n = keep(&mut at, n, v);
+            if n == 12 {
                 break 'numbers;
             }
         }
     }
+    let kept = Kept { count: n, at: at };
     Scanned {
         kept: kept,
         stop: i,

@@ -6,22 +6,22 @@ use borrow.Author.Needs.{needs}
 use denote.Ref.{now}
 use lib.ListN.{length}
 use Rattle.message_text.specs.Numbers.{between, within}
-use Rattle.message_text.specs.Scan.{keptMore}
+use Rattle.message_text.specs.Scan.{kept, keptMore}
 use Rattle.message_text.proofs.Keeping.{Going, start, digit, separator, cut, whole-last, whole-end, whole-separator, met-last, met-end, met-full}
 use Rattle.message_text.proofs.scanning.scan.Statement.{statement}
 use Rattle.message_text.proofs.scanning.scan.Tie as tie
 
 abbrev Inv-digits : tie.InvT-digits
-Inv-digits text kept₀ i₀ k v₀ kept i v = Going text (within v) kept i × (i₀ ≤ i) × (kept .count ≤ 11) × (v ≤ 2 ^ 32)
+Inv-digits text at₀ n₀ i₀ k v₀ at n i v = Going text (within v) (kept n at) i × (i₀ ≤ i) × (n ≤ 11) × (v ≤ 2 ^ 32)
 
 abbrev μ-digits : tie.MeasureT-digits
-μ-digits text kept₀ i₀ k v₀ kept i v = length text - i
+μ-digits text at₀ n₀ i₀ k v₀ at n i v = length text - i
 
 abbrev Inv-numbers : tie.InvT-numbers
-Inv-numbers text kept₀ i₀ kept i = Going text between kept i × (kept .count ≤ 11)
+Inv-numbers text at₀ n₀ i₀ at n i = Going text between (kept n at) i × (n ≤ 11)
 
 abbrev μ-numbers : tie.MeasureT-numbers
-μ-numbers text kept₀ i₀ kept i = length text - i
+μ-numbers text at₀ n₀ i₀ at n i = length text - i
 
 numbers-holds : tie.Need-numbers-holds Inv-digits μ-digits Inv-numbers μ-numbers
 numbers-holds c = (start (now (c .before .args .text)), search needs)
@@ -52,7 +52,7 @@ byte-kind-requires-2 : tie.Need-byte-kind-requires-2 Inv-digits μ-digits Inv-nu
 byte-kind-requires-2 c κs = search needs
 
 keep-requires : tie.Need-keep-requires Inv-digits μ-digits Inv-numbers μ-numbers
-keep-requires c κs = search needs
+keep-requires c κs = c .before .before .before .before .before .digits .inv .0 .size
 
 add-i-2 : tie.Need-add-i-2 Inv-digits μ-digits Inv-numbers μ-numbers
 add-i-2 c = search needs
@@ -72,7 +72,7 @@ digits-again c =
 left :
     (c : tie.Left-digits Inv-digits μ-digits Inv-numbers μ-numbers)
     → (c .before .digits .i ≤ c .digits-test .i)
-    × Going (now (c .before .before .before .before .before .before .before .before .before .args .text)) between (keptMore (c .before .digits .kept) (c .before .digits .v)) (c .digits-test .i)
+    × Going (now (c .before .before .before .before .before .before .before .before .before .args .text)) between (keptMore (kept (c .before .digits .n) (c .before .digits .at)) (c .before .digits .v)) (c .digits-test .i)
 left c =
     let s = c .before .digits in
     ⊎-elim
@@ -81,13 +81,13 @@ left c =
     (c .digits-test .came)
 
 keep-requires-2 : tie.Need-keep-requires-2 Inv-digits μ-digits Inv-numbers μ-numbers
-keep-requires-2 c κs = search needs
+keep-requires-2 c κs = c .before .before .digits .inv .0 .size
 
 numbers-less : tie.Need-numbers-less Inv-digits μ-digits Inv-numbers μ-numbers
 numbers-less c = let l = left (c .before .before .before) in omega (arith, l .0, l .1 .inside)
 
 numbers-again : tie.Need-numbers-again Inv-digits μ-digits Inv-numbers μ-numbers
-numbers-again c = let e = c .before .before .keep2 .ensures in (rw e (left (c .before .before .before) .1), omega (arith, ap (λ k. k .count) e))
+numbers-again c = let e = c .before .keep2 .ensures in (rw e (left (c .before .before .before) .1), omega (arith, ap (λ k. k .count) e))
 
 numbers-less-2 : tie.Need-numbers-less-2 Inv-digits μ-digits Inv-numbers μ-numbers
 numbers-less-2 c = search needs
@@ -105,13 +105,14 @@ returns-2 c = met-end (c .before .before .before .before .numbers .inv .0) (omeg
 
 returns-3 : tie.Need-returns-3 Inv-digits μ-digits Inv-numbers μ-numbers
 returns-3 c =
-    let s = c .before .before .before .before .before .digits in
-    let k = c .before .before .byte-kind2 in
-    let e = c .before .if3 .taken in
+    let b = c .before .before in
+    let s = b .before .before .before .before .digits in
+    let k = b .before .byte-kind2 in
+    let e = b .if3 .taken in
     rw (c .keep .ensures) (met-end (whole-end (s .inv .0) (s .inv .3) (s .inv .2) (omega arith) (k .ensures) e) (omega arith) (k .ensures) e)
 
 returns-4 : tie.Need-returns-4 Inv-digits μ-digits Inv-numbers μ-numbers
-returns-4 c = met-full (rw (c .before .before .keep2 .ensures) (left (c .before .before .before) .1)) (c .if5 .taken)
+returns-4 c = met-full (rw (c .before .keep2 .ensures) (left (c .before .before .before) .1)) (c .if5 .taken)
 
 pub scan-spec : {M : Type 1} → statement M
 scan-spec =
