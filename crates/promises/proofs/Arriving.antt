@@ -12,12 +12,13 @@ use Rattle.common.specs.Numbers.{allZero}
 use Rattle.common.proofs.Bools.{apart, and-left, and-right}
 use Rattle.ids.specs.Frames.{headerRefusal, carried}
 use Rattle.records.specs.Messages.{stored, goodMessage}
-use Rattle.records.specs.Events.{holdsFrame, kindOf, goodEvent}
+use Rattle.records.specs.Events.{codeOf, holdsFrame, kindOf, goodEvent}
 use Rattle.records.specs.declared.Message.{Message}
 use Rattle.records.specs.declared.Event.{Event}
 use Rattle.records.specs.declared.Kind.the-variants.{Other}
 use Rattle.records.proofs.RoundTrip.{stored-length, stored-good}
-use Rattle.queue.specs.Queue.{verdict}
+use Rattle.ids.specs.EventMask.{maskLets}
+use Rattle.queue.specs.Queue.{filtered}
 use Rattle.recorder.specs.Outcomes.{eventOf}
 use Rattle.recorder.specs.Receiving.{frameRefusal}
 use Rattle.recorder.specs.declared.Device.{Device}
@@ -63,8 +64,9 @@ module _ (tick : ℕ) (m : Message) (t : Word tick) (eight : length (m .bytes) �
 
 -- an event that is fine means nothing else to the queue
 pub fine-meets : (d : Device) (e : Event) (q : Queue) (b : List ℕ) → Fine e → Proper q b (meets d e)
-fine-meets d e q b f = by (eqb (verdict (d .shared .mode) (d .shared .align) (d .receive) e) 0)
+fine-meets d e q b f = by (filtered (d .shared .mode) (d .shared .align) (d .receive) e) (maskLets (d .receive .events) (codeOf (e .kind)))
   where
-    by : (c : Bool) → Proper q b (pick c (arrives e) rests)
-    by true = f
-    by false = tt
+    by : (g m : Bool) → Proper q b (pick g rests (pick m (arrives e) rests))
+    by true m = tt
+    by false true = f
+    by false false = tt

@@ -20,7 +20,7 @@ use Rattle.records.specs.declared.Message.{Message}
 use Rattle.records.specs.Events.{holdsFrame, codeOf, isEvent}
 use Rattle.records.specs.Messages.{isMessage, noMessage}
 use Rattle.records.specs.declared.Event.{Event}
-use Rattle.queue.specs.Queue.{queueFits, slotAt, usable, filtered, verdict, Raising, queued, raising, notRead, reading, lookNumber, looked}
+use Rattle.queue.specs.Queue.{queueFits, slotAt, usable, filtered, Raising, raises, queued, unfiltered, raising, notRead, reading, lookNumber, looked}
 use Rattle.queue.specs.declared.Receive.{Receive}
 use Rattle.queue.specs.declared.ReadOut.{ReadOut}
 use Rattle.outbox.specs.Outbox.{Sending, sending, taking}
@@ -107,23 +107,19 @@ record Met (r : Receive) (t : List ℕ) (g : Raising) : Type 0 where
   table-kept : isRefusal (g .number) ≡ true → g .table ≡ t
 
 raising-met : (mode align : ℕ) (r : Receive) (e : Event) (t : List ℕ) → Met r t (raising mode align r e t)
-unfolding raising queued verdict isRefusal
+unfolding raising unfiltered queued isRefusal
 raising-met mode align r e t =
     both (Met r t) (usable r t) _ _
-    (pick-is (Met r t) (eqb (verdict mode align r e) 0)
-    (λ z. both (Met r t) (ltb (r .ring .count) (r .ring .capacity)) _ _
+    (both (Met r t) (filtered mode align r e) _ _ (kept 101 refl)
+    (both (Met r t) (maskLets (r .events) (codeOf (e .kind))) _ _
+    (both (Met r t) (ltb (r .ring .count) (r .ring .capacity)) _ _
     (record { number-in = refl; receive-kept = λ x. absurd (apart (sym x)); table-kept = λ x. absurd (apart (sym x)) })
     (record { number-in = refl; receive-kept = λ x. absurd (apart (sym x)); table-kept = λ x. absurd (apart (sym x)) }))
-    (λ z. record { number-in = past z; receive-kept = λ x. refl; table-kept = λ x. refl }))
-    (record { number-in = refl; receive-kept = λ x. refl; table-kept = λ x. refl })
+    (kept 102 refl)))
+    (kept 2 refl)
   where
-    Past : ℕ → Type 0
-    Past n = eqb n 0 ≡ false → among n (2 ∷ 100 ∷ 101 ∷ 102 ∷ 103 ∷ []) ≡ true
-
-    past : Past (verdict mode align r e)
-    past =
-        both Past (filtered mode align r e) 101 (pick (maskLets (r .events) (codeOf (e .kind))) 0 102) (λ z. refl)
-        (both Past (maskLets (r .events) (codeOf (e .kind))) 0 102 (λ z. absurd (apart z)) (λ z. refl))
+    kept : (n : ℕ) → among n (2 ∷ 100 ∷ 101 ∷ 102 ∷ 103 ∷ []) ≡ true → Met r t (raises n r t)
+    kept n h = record { number-in = h; receive-kept = λ x. refl; table-kept = λ x. refl }
 
 -- ---- the calls
 

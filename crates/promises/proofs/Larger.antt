@@ -12,7 +12,7 @@ use Rattle.common.specs.Sublist.{Sublist, none, keep, skip}
 use Rattle.common.specs.Slots.{ring}
 use Rattle.common.proofs.Sublists.{sublist-append}
 use Rattle.records.specs.Events.{eventBytes}
-use Rattle.queue.specs.Queue.{stamped, verdict, filtered}
+use Rattle.queue.specs.Queue.{stamped, filtered}
 use Rattle.recorder.specs.Outcomes.{Lent}
 use Rattle.recorder.specs.Receiving.{opened}
 use Rattle.recorder.specs.declared.Device.{Device}
@@ -76,7 +76,7 @@ kept-sub (x ∷ ms) c d i n m lost lost′ f =
 -- ---- what the calls mean does not depend on the queue
 
 meaning-bare : (x : Call) (d : Device) (box : List (List ℕ)) (out : List ℕ) → meaning x d box out ≡ meaning x (bare d) box out
-unfolding meaning verdict filtered
+unfolding meaning filtered
 meaning-bare (raise code tick m) d box out = refl
 meaning-bare readText d box out = refl
 meaning-bare readRecord d box out = refl

@@ -21,7 +21,7 @@ use Rattle.ids.specs.EventMask.{maskBit, maskLets}
 use Rattle.records.specs.Messages.{stored, goodMessage, messageBytes, messageIn, isMessage, noMessage, judgeMessage}
 use Rattle.records.specs.Events.{holdsFrame, kindOf, eventBytes, eventIn, isEvent}
 use Rattle.records.specs.declared.Message.{Message}
-use Rattle.queue.specs.Queue.{goodReceive, filtered, verdict, queued, raising, reading}
+use Rattle.queue.specs.Queue.{goodReceive, filtered, queued, unfiltered, raising, reading}
 use Rattle.outbox.specs.Outbox.{goodTx, goodSend, sending}
 use Rattle.message_text.specs.Numbers.{numbersFrom, beforeEnd, endRun}
 use Rattle.message_text.specs.Reading.{allBytes, judgedData, judged, readMessage}
@@ -132,7 +132,7 @@ rows =
 pub sheet : map (λ (r : Row). r .said) rows ≡ map (λ (r : Row). r .paper) rows
 unfolding rows warning reading-one step opened goodShared good formatOf goodReceive goodRing goodTx goodSend modeTakes textSent readMessage beforeEnd endRun byteKind
     judged judgedData numbersFrom rawOf isFormat idLow idBits carried allBytes put sending slotOf store slot ring messageBytes linePrinted messageRefusal
-    headerRefusal messageLine messageText hex hexDigit fields raised holdsFrame kindOf eventOf stored raising verdict filtered framePasses idPasses isFilter
+    headerRefusal messageLine messageText hex hexDigit fields raised holdsFrame kindOf eventOf stored raising unfiltered filtered framePasses idPasses isFilter
     filterLow dataCompared free fieldMeets byteMeets dataPasses maskBit maskLets queued eventBytes through freeBits letThrough recorded run next handed logged
     sentBy leftBy recordRead reading isEvent
 sheet = refl
@@ -177,7 +177,7 @@ others =
 pub others-too : map (λ (r : Row). r .said) others ≡ map (λ (r : Row). r .paper) others
 unfolding others received warning reading-one step opened goodShared good formatOf goodReceive goodRing goodTx goodSend modeTakes textSent readMessage beforeEnd endRun
     byteKind judged judgedData numbersFrom rawOf isFormat idLow idBits carried allBytes put sending slotOf store slot ring messageBytes linePrinted messageRefusal
-    headerRefusal messageLine messageText hex hexDigit fields raised holdsFrame kindOf eventOf stored raising verdict filtered framePasses idPasses isFilter
+    headerRefusal messageLine messageText hex hexDigit fields raised holdsFrame kindOf eventOf stored raising unfiltered filtered framePasses idPasses isFilter
     filterLow dataCompared free fieldMeets byteMeets dataPasses maskBit maskLets queued eventBytes through freeBits letThrough recorded run next handed logged
     sentBy leftBy recordRead reading isEvent textRead eventIn judgeMessage messageIn isMessage goodMessage eventLine eventText frameText wordOf decimalIn
 others-too = refl

@@ -4,13 +4,13 @@ use mathlib.Core.Path.{_≡_, refl, sym}
 use mathlib.Core.Bool.{Bool, true, false}
 use mathlib.Core.List.{List, [], _∷_, append-nil}
 use lib.ListN.{length}
-use lib.Dec.{ltb, eqb}
+use lib.Dec.{ltb}
 use borrow.Author.Tests.{le-leb}
 use Rattle.common.specs.Choice.{pick}
 use Rattle.common.specs.Numbers.{among}
 use Rattle.common.proofs.Bools.{apart}
 use Rattle.records.specs.declared.Event.{Event}
-use Rattle.queue.specs.Queue.{queueLimit, eventSize, moved, goodReceive, usable, verdict, queued, raising, Raising, raises, filtered}
+use Rattle.queue.specs.Queue.{queueLimit, eventSize, moved, goodReceive, usable, filtered, Raising, raises, queued, unfiltered, raising}
 use Rattle.queue.specs.declared.Receive.{Receive}
 use Rattle.ids.specs.EventMask.{maskLets}
 use Rattle.records.specs.Events.{codeOf}
@@ -36,31 +36,21 @@ pub record Leaves (k : Device) (q : Queue) (g : Raising) : Type 0 where
 abbrev pub channel : Device → Queue → Receive
 channel k q = moved (k .receive) (q .ring) (q .pending)
 
--- a number that is not 0 of what an event meets before the queue
-stopped : (mode align : ℕ) (r : Receive) (e : Event) → eqb (verdict mode align r e) 0 ≡ false → among (verdict mode align r e) (100 ∷ 101 ∷ 102 ∷ 103 ∷ []) ≡ true
-unfolding verdict
-stopped mode align r e = by (filtered mode align r e) (maskLets (r .events) (codeOf (e .kind)))
-  where
-    by : (f m : Bool) → eqb (pick f 101 (pick m 0 102)) 0 ≡ false → among (pick f 101 (pick m 0 102)) (100 ∷ 101 ∷ 102 ∷ 103 ∷ []) ≡ true
-    by true m h = refl
-    by false true h = absurd (apart h)
-    by false false h = refl
-
 pub met-after : (k : Device) (q : Queue) (e : Event) → usable (channel k q) (q .table) ≡ true
     → Leaves k (after (meets k e) q) (raising (k .shared .mode) (k .shared .align) (channel k q) e (q .table))
-unfolding raising queued after verdict filtered
-met-after k q e u = rw u (by (eqb v 0) refl)
+unfolding raising unfiltered queued after filtered
+met-after k q e u = rw u (by (filtered (k .shared .mode) (k .shared .align) (k .receive) e) (maskLets (k .receive .events) (codeOf (e .kind))))
   where
-    v : ℕ
-    v = verdict (k .shared .mode) (k .shared .align) (k .receive) e
-
     room : (c : Bool) → Leaves k (pick c (put e q) (lose q)) (pick c (raises 100 (channel k (put e q)) (put e q .table)) (raises 103 (channel k (lose q)) (q .table)))
     room true = record { number = refl; receive = refl; table = refl }
     room false = record { number = refl; receive = refl; table = refl }
 
-    by : (b : Bool) → eqb v 0 ≡ b → Leaves k (after (pick b (arrives e) rests) q) (pick b (queued (channel k q) e (q .table)) (raises v (channel k q) (q .table)))
-    by true h = room (ltb (q .ring .count) (q .ring .capacity))
-    by false h = record { number = stopped (k .shared .mode) (k .shared .align) (k .receive) e h; receive = refl; table = refl }
+    by : (f m : Bool)
+        → Leaves k (after (pick f rests (pick m (arrives e) rests)) q)
+        (pick f (raises 101 (channel k q) (q .table)) (pick m (queued (channel k q) e (q .table)) (raises 102 (channel k q) (q .table))))
+    by true m = record { number = refl; receive = refl; table = refl }
+    by false true = room (ltb (q .ring .count) (q .ring .capacity))
+    by false false = record { number = refl; receive = refl; table = refl }
 
 -- a channel whose settings are possible is usable with a queue that sits in its table
 pub usable-channel : (k : Device) (q : Queue) → Parts k → Sits q → usable (channel k q) (q .table) ≡ true

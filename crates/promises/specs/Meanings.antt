@@ -5,10 +5,12 @@ use mathlib.Core.List.{List, [], _∷_}
 use lib.ListN.{length}
 use lib.Dec.{ltb, eqb}
 use Rattle.common.specs.Choice.{pick}
+use Rattle.ids.specs.EventMask.{maskLets}
+use Rattle.records.specs.Events.{codeOf}
 use Rattle.records.specs.Messages.{messageIn, noMessage}
 use Rattle.records.specs.declared.Event.{Event}
 use Rattle.event_text.specs.Lines.{eventRoom}
-use Rattle.queue.specs.Queue.{verdict}
+use Rattle.queue.specs.Queue.{filtered}
 use Rattle.outbox.specs.Outbox.{raisesAtTake, raisesAtDone}
 use Rattle.recorder.specs.State.{goodShared, withShared}
 use Rattle.recorder.specs.Outcomes.{eventOf}
@@ -28,7 +30,9 @@ pub data Meaning : Type 0 where
 
 -- an event that is raised arrives where filter and mask let it through
 abbrev pub meets : Device → Event → Meaning
-meets d e = pick (eqb (verdict (d .shared .mode) (d .shared .align) (d .receive) e) 0) (arrives e) rests
+meets d e =
+    pick (filtered (d .shared .mode) (d .shared .align) (d .receive) e) rests
+    (pick (maskLets (d .receive .events) (codeOf (e .kind))) (arrives e) rests)
 
 -- a change of the shared settings, where they are in range, raises code 5 after the change
 abbrev pub changes : Device → Shared → ℕ → Meaning

@@ -8,8 +8,9 @@ use records::Event;
 use records::Kind;
 use records::Message;
 ghost use mathlib.Core.Path.{_≡_};
-ghost use mathlib.Core.Bool.{_&&_};
-ghost use Rattle.queue.specs.Queue.{queueFits, raising};
+ghost use mathlib.Core.Bool.{true, _&&_};
+ghost use Rattle.records.specs.Events.{codeOf};
+ghost use Rattle.queue.specs.Queue.{queueFits, usable, raising};
 ghost use Rattle.outbox.specs.Outbox.{sendFits};
 ghost use Rattle.recorder.specs.State.{goodShared, good, withShared, withReceive, withSend};
 ghost use Rattle.recorder.specs.Outcomes.{answers, eventOf, NoteMet};
@@ -142,13 +143,13 @@ pub fn event_of(code: u32, tick: u32, m: Message) -> Event
     }
 }
 
-// The device after an event that a call raises beside its answer.
+// The device after an event that a call raises beside its answer, over a device and a table that were judged: only code 1 meets the filter.
 pub fn note(d: Device, e: Event, table: &mut [u8]) -> Device
+    requires { ⌜ (usable (d .receive) (now table) ≡ true) × (codeOf (e .kind) ≡ 1 → ⊥) ⌝ }
     ensures { λ n. ⌜ NoteMet (raising (d .shared .mode) (d .shared .align) (d .receive) e (now (table .entry))) d n (now (table .exit)) ⌝ }
 {
-    let shared = d.shared;
     let receive = d.receive;
-    let met = queue::raising::raise(shared.mode, shared.align, receive, e, table);
+    let met = queue::raising::past_filter(receive, e, table);
     let next = queue::raising::after_raise(receive, met);
     with_receive(d, next)
 }

@@ -1,9 +1,12 @@
-use mathlib.Core.Path.{refl, _∙_}
+use mathlib.Core.Path.{refl, ap, _∙_}
+use native.Mathlib.Omega.{arith}
 use denote.Ref.{now}
 use mathlib.Core.List.{[]}
 use Rattle.recorder.specs.Outcomes.{lends}
+use Rattle.recorder.specs.declared.Device.{Device}
 use Rattle.common.proofs.Bools.{said, denied}
 use Rattle.recorder.proofs.Meeting.{queue-met}
+use Rattle.recorder.proofs.Ready.{may-note}
 use Rattle.recorder.proofs.ChangeWays.{change-2, change-1, change-0}
 use borrow.Author.Needs.{needs}
 use Rattle.recorder.proofs.changes.change.Statement.{statement}
@@ -45,7 +48,10 @@ with-shared-requires : tie.Need-with-shared-requires
 with-shared-requires c κs = search needs
 
 note-requires : tie.Need-note-requires
-note-requires c κs = search needs
+note-requires c κs =
+    let a = c .before .before .before .before .before .before .before .before .before .args in
+    may-note (a .d) (lends (now (a .queue)) [] []) 5 (a .tick) _ (said (c .before .before .before .before .before .before .before .queue-ready .ensures) (c .before .before .before .before .before .before .if1 .left)) (λ h. omega arith)
+    (ap (λ (x : Device). x .receive) (c .before .with-shared .ensures)) (c .before .before .event-of .ensures)
 
 answer-requires-3 : tie.Need-answer-requires-3
 answer-requires-3 c κs = search needs

@@ -1,9 +1,12 @@
-use mathlib.Core.Path.{refl}
+use mathlib.Core.Path.{refl, ap}
+use native.Mathlib.Omega.{arith}
 use denote.Ref.{now}
 use mathlib.Core.List.{[]}
 use Rattle.recorder.specs.Outcomes.{lends}
+use Rattle.recorder.specs.declared.Device.{Device}
 use Rattle.common.proofs.Bools.{said, denied}
 use Rattle.recorder.proofs.Meeting.{take-met}
+use Rattle.recorder.proofs.Ready.{may-note}
 use Rattle.recorder.proofs.RegisterWays.{take-2, take-short, take-refused, take-quiet, take-noted}
 use borrow.Author.Needs.{needs}
 use Rattle.recorder.proofs.register.take.Statement.{statement}
@@ -80,7 +83,10 @@ event-of-requires : tie.Need-event-of-requires
 event-of-requires c κs = search needs
 
 note-requires : tie.Need-note-requires
-note-requires c κs = search needs
+note-requires c κs =
+    let a = c .before .before .before .before .before .before .before .before .before .before .before .before .before .before .before .before .before .before .args in
+    may-note (a .d) (lends (now (a .queue)) (now (a .send)) []) 2 (a .tick) _ (said (c .before .before .before .before .before .before .before .before .before .before .before .before .before .before .before .queue-ready .ensures) (c .before .before .before .before .before .before .before .before .before .before .before .before .before .before .if1 .left)) (λ h. omega arith)
+    (ap (λ (x : Device). x .receive) (c .before .before .before .before .with-send .ensures)) (c .before .event-of .ensures)
 
 same-length : tie.Need-same-length
 same-length c = search needs

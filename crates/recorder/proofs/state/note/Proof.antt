@@ -1,17 +1,17 @@
-use mathlib.Core.Path.{_∙_}
+use mathlib.Core.Path.{sym, ap, _∙_}
 use denote.Ref.{now}
-use Rattle.queue.proofs.Laws.{room-for, built}
+use Rattle.queue.specs.Queue.{Raising}
+use Rattle.queue.proofs.Laws.{no-filter, next-past, room-for, built}
+use Rattle.recorder.specs.State.{withReceive}
 use borrow.Author.Needs.{needs}
 use Rattle.recorder.proofs.state.note.Statement.{statement}
 use Rattle.recorder.proofs.state.note.Tie as tie
 
-raise-requires : tie.Need-raise-requires
-raise-requires c κs = search needs
+past-filter-requires : tie.Need-past-filter-requires
+past-filter-requires c κs = search needs
 
 after-raise-requires : tie.Need-after-raise-requires
-after-raise-requires c κs =
-    let a = c .before .before .before .before .before .before .before .args in
-    room-for (a .d .shared .mode) (a .d .shared .align) (a .d .receive) (a .e) (now (a .table)) (c .before .before .raise .ensures .number)
+after-raise-requires c κs = let a = c .before .before .before .before .before .before .args in room-for (next-past (a .d .receive) (a .e) (now (a .table))) (c .before .before .past-filter .ensures .number)
 
 with-receive-requires : tie.Need-with-receive-requires
 with-receive-requires c κs = search needs
@@ -21,12 +21,18 @@ same-length c = search needs
 
 returns : tie.Need-returns
 returns c =
-    let a = c .before .before .before .before .before .before .before .before .before .args in
-    let raise = c .before .before .before .before .raise in
-    let next = built (a .d .shared .mode) (a .d .shared .align) (a .d .receive) (a .e) (now (a .table)) (raise .ensures .number) (c .before .after-raise .ensures) in
-    record { device = c .with-receive .ensures ∙ rw next; queue-bytes = raise .ensures .table }
+    let s = c .before .before .before .before .before .before .before .before in
+    let d = s .args .d in
+    let t = now (s .args .table) in
+    let met = c .before .before .before .before .past-filter .ensures in
+    let same = no-filter (d .shared .mode) (d .shared .align) (d .receive) (s .args .e) t (s .pre .0) (s .pre .1) in
+    let next = built (next-past (d .receive) (s .args .e) t) (met .number) (c .before .after-raise .ensures) in
+    record {
+      device = c .with-receive .ensures ∙ ap (withReceive d) next ∙ sym (ap (λ (o : Raising). withReceive d (o .receive)) same);
+      queue-bytes = met .table ∙ sym (ap (λ (o : Raising). o .table) same);
+    }
 
 pub note-spec : {M : Type 1} → statement M
 note-spec =
     tie.close
-    (tie.spec raise-requires after-raise-requires with-receive-requires same-length returns)
+    (tie.spec past-filter-requires after-raise-requires with-receive-requires same-length returns)
