@@ -1,4 +1,5 @@
 pub mod Laws
+pub mod Moves
 pub mod Ways
 pub mod State
 pub mod Unique

@@ -9,10 +9,10 @@ use lib.Dec.{leb, eqb}
 use Rattle.common.specs.Choice.{pick}
 use Rattle.common.specs.Numbers.{bytesOf, numberOf}
 use Rattle.records.specs.declared.Message.{Message}
-use Rattle.queue.specs.Queue.{lookedAt}
+use Rattle.queue.specs.Queue.{moved, lookedAt}
 use Rattle.queue.specs.declared.Receive.{Receive}
 use Rattle.outbox.specs.declared.Send.{Send}
-use Rattle.recorder.specs.State.{noDevice}
+use Rattle.recorder.specs.State.{noDevice, withReceive}
 use Rattle.recorder.specs.Outcomes.{Lent, Outcome, lends, refuses, isRefusal}
 use Rattle.recorder.specs.Receiving.{opened, lookSaid}
 use Rattle.recorder.specs.declared.Shared.{Shared}
@@ -93,6 +93,11 @@ openedOn given s l =
 -- what stands in a lent place after a call that answers n: beside a refusal what stood there, else the new
 abbrev pub left : {A : Type 0} → ℕ → A → A → A
 left n old new = pick (isRefusal n) old new
+
+-- the device with its event queue moved: first, count and pending of another
+abbrev pub queueMoved : Device → Receive → Device
+queueMoved d r =
+    withReceive d (moved (d .receive) (record { capacity = d .receive .ring .capacity; first = r .ring .first; count = r .ring .count }) (r .pending))
 
 -- what keeping a device beside a number promises of the state s
 pub record Left (number : ℕ) (d : Device) (s : List ℕ) (n : ℕ) (state : List ℕ) : Type 0 where

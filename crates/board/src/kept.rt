@@ -8,13 +8,14 @@ use recorder::Device;
 use recorder::Shared;
 use records::Message;
 ghost use mathlib.Core.Path.{_≡_};
+ghost use mathlib.Core.Bool.{true};
 ghost use mathlib.Core.List.{_∷_, [], _++_};
 ghost use Prim.Native.Nat.{_+_, _*_, _≤_};
 ghost use lib.ListN.{length};
 ghost use lib.Seq.{sets};
 ghost use Rattle.common.specs.Numbers.{bytesOf};
 ghost use Rattle.recorder.specs.Outcomes.{isRefusal};
-ghost use Rattle.board.specs.Board.{stateBytes, word, deviceIn, isState, left, message, words, front, rest, Left};
+ghost use Rattle.board.specs.Board.{stateBytes, word, deviceIn, isState, left, message, words, front, rest, queueMoved, Left};
 
 // The bytes of a state.
 pub const STATE: usize = 88;
@@ -236,6 +237,21 @@ pub fn leave(state: &mut [u8], number: u32, d: Device) -> u32
         return number;
     }
     write_state(state, d);
+    number
+}
+
+// The same after a raise or a read, which move the event queue alone: only its numbers are written.
+pub fn leave_queue(state: &mut [u8], number: u32, d: Device) -> u32
+    requires { ⌜ (isState (now state) ≡ true) × (d ≡ queueMoved (deviceIn (now state)) (d .receive)) ⌝ }
+    ensures { λ n. ⌜ Left number d (now (state .entry)) n (now (state .exit)) ⌝ }
+{
+    if is_refusal(number) {
+        return number;
+    }
+    let receive = d.receive;
+    let ring = receive.ring;
+    let send = d.send;
+    write_four(state, 32, ring.first, ring.count, receive.pending, send.tx);
     number
 }
 

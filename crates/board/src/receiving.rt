@@ -29,7 +29,7 @@ pub extern "C" fn sv_raise(
     let d = kept::device_in(state);
     let m = kept::message(id, format, rtr, dlc, bytes);
     let r = recorder::receiving::raise(d, code, tick, m, queue);
-    kept::leave(state, r.number, r.device)
+    kept::leave_queue(state, r.number, r.device)
 }
 
 // Reads the oldest event as its 32 bytes.
@@ -45,7 +45,7 @@ pub extern "C" fn sv_read_record(state: &mut [u8], queue: &[u8], out: &mut [u8; 
     let r = recorder::receiving::read_record(d, queue);
     let b = r.bytes;
     kept::hand_event(out, r.number, b);
-    kept::leave(state, r.number, r.device)
+    kept::leave_queue(state, r.number, r.device)
 }
 
 // Reads the oldest event as text.
@@ -65,7 +65,7 @@ pub extern "C" fn sv_read_text(
     let d = kept::device_in(state);
     let r = recorder::receiving::read_text(d, queue, out);
     kept::hand(length, r.number, r.value);
-    kept::leave(state, r.number, r.device)
+    kept::leave_queue(state, r.number, r.device)
 }
 
 // The number of a look at position p.

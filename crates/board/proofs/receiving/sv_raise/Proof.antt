@@ -1,3 +1,4 @@
+use Rattle.board.proofs.Moves.{raise-moves, answer-moves}
 use Rattle.board.specs.Board.{message}
 use Rattle.board.proofs.Ways.{not-queue, queue-called}
 use Rattle.recorder.specs.Receiving.{raised}
@@ -31,11 +32,18 @@ message-requires c κs = search needs
 raise-requires : tie.Need-raise-requires
 raise-requires c κs = search needs
 
-leave-requires : tie.Need-leave-requires
-leave-requires c κs =
-    let is-state = c .before .before .before .before .before .before .before .before .before .is-state in
-    let if1 = c .before .before .before .before .before .before .before .before .if1 in
-    state-long _ (said (is-state .ensures) (if1 .left))
+leave-queue-requires : tie.Need-leave-queue-requires
+leave-queue-requires c κs =
+    let k = c .before .before .before .before .before .before in
+    let g = k .before .before in
+    let a = g .before .before .before .before .before .args in
+    let m = message (a .id) (a .format) (a .rtr) (a .dlc) (now (a .bytes)) in
+    let d = k .device-in .result in
+    let l = lends (now (a .queue)) [] [] in
+    let met = rw (c .before .before .before .before .before .message .ensures) at (c .before .before .before .raise .ensures) in (
+      said (g .before .is-state .ensures) (g .if1 .left),
+      answer-moves (now (a .state)) (raised (a .code) (a .tick) m d l) (k .device-in .ensures) (raise-moves d l (a .code) (a .tick) m) (met .answer),
+    )
 
 same-length-2 : tie.Need-same-length-2
 same-length-2 c = search needs
@@ -51,7 +59,7 @@ returns-2 c =
     let device-in = c .before .before .before .before .before .before .before .before .before .device-in in
     let made = c .before .before .before .before .before .before .before .before .message in
     let raise = c .before .before .before .before .before .before .raise in
-    let leave = c .before .before .leave in
+    let leave = c .before .before .leave-queue in
     queue-called (raised (a .code) (a .tick) (message (a .id) (a .format) (a .rtr) (a .dlc) (now (a .bytes)))) (now (a .state)) (lends (now (a .queue)) [] [])
     (said (is-state .ensures) (if1 .left)) (device-in .ensures) (rw (made .ensures) at (raise .ensures)) (leave .ensures)
 
@@ -65,7 +73,7 @@ sv-raise-spec =
     device-in-requires
     message-requires
     raise-requires
-    leave-requires
+    leave-queue-requires
     same-length-2
     same-length-3
     returns-2)

@@ -1,3 +1,4 @@
+use Rattle.board.proofs.Moves.{record-moves, bytes-moves}
 use Rattle.board.proofs.Ways.{not-record, record-called}
 use Rattle.recorder.specs.Receiving.{recordRead}
 use Rattle.board.proofs.Laws.{state-long}
@@ -29,11 +30,16 @@ read-record-requires c κs = search needs
 hand-event-requires : tie.Need-hand-event-requires
 hand-event-requires c κs = search needs
 
-leave-requires : tie.Need-leave-requires
-leave-requires c κs =
-    let is-state = c .before .before .before .before .before .before .before .before .is-state in
-    let if1 = c .before .before .before .before .before .before .before .if1 in
-    state-long _ (said (is-state .ensures) (if1 .left))
+leave-queue-requires : tie.Need-leave-queue-requires
+leave-queue-requires c κs =
+    let k = c .before .before .before .before .before in
+    let g = k .before .before in
+    let a = g .before .before .before .before .before .args in
+    let d = k .device-in .result in
+    let l = lends (now (a .queue)) [] [] in (
+      said (g .before .is-state .ensures) (g .if1 .left),
+      bytes-moves (now (a .state)) (recordRead d l) (k .device-in .ensures) (record-moves d l) (c .before .before .before .before .read-record .ensures),
+    )
 
 same-length-2 : tie.Need-same-length-2
 same-length-2 c = search needs
@@ -46,7 +52,7 @@ returns-2 c =
     let device-in = c .before .before .before .before .before .before .before .before .device-in in
     let read-record = c .before .before .before .before .before .before .before .read-record in
     let hand-event = c .before .before .before .before .hand-event in
-    let leave = c .before .before .leave in
+    let leave = c .before .before .leave-queue in
     record-called recordRead (now (a .state)) (lends (now (a .queue)) [] []) (said (is-state .ensures) (if1 .left)) (device-in .ensures) (read-record .ensures)
     (hand-event .ensures) (leave .ensures)
 
@@ -60,6 +66,6 @@ sv-read-record-spec =
     device-in-requires
     read-record-requires
     hand-event-requires
-    leave-requires
+    leave-queue-requires
     same-length-2
     returns-2)

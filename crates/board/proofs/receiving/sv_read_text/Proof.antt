@@ -1,3 +1,4 @@
+use Rattle.board.proofs.Moves.{text-moves, answer-moves}
 use Rattle.board.proofs.Ways.{not-text, text-called}
 use Rattle.recorder.specs.Receiving.{textRead}
 use Rattle.board.proofs.Laws.{state-long}
@@ -29,11 +30,16 @@ read-text-requires c κs = search needs
 hand-requires : tie.Need-hand-requires
 hand-requires c κs = search needs
 
-leave-requires : tie.Need-leave-requires
-leave-requires c κs =
-    let is-state = c .before .before .before .before .before .before .before .before .before .before .is-state in
-    let if1 = c .before .before .before .before .before .before .before .before .before .if1 in
-    state-long _ (said (is-state .ensures) (if1 .left))
+leave-queue-requires : tie.Need-leave-queue-requires
+leave-queue-requires c κs =
+    let k = c .before .before .before .before .before .before .before in
+    let g = k .before .before in
+    let a = g .before .before .before .before .before .before .args in
+    let d = k .device-in .result in
+    let l = lends (now (a .queue)) [] (now (a .out)) in (
+      said (g .before .is-state .ensures) (g .if1 .left),
+      answer-moves (now (a .state)) (textRead d l) (k .device-in .ensures) (text-moves d l) (c .before .before .before .before .before .read-text .ensures .answer),
+    )
 
 same-length-2 : tie.Need-same-length-2
 same-length-2 c = search needs
@@ -49,7 +55,7 @@ returns-2 c =
     let device-in = c .before .before .before .before .before .before .before .before .before .before .device-in in
     let read-text = c .before .before .before .before .before .before .before .before .read-text in
     let hand = c .before .before .before .before .hand in
-    let leave = c .before .before .leave in
+    let leave = c .before .before .leave-queue in
     text-called textRead (now (a .state)) (lends (now (a .queue)) [] (now (a .out))) (said (is-state .ensures) (if1 .left)) (device-in .ensures) (read-text .ensures)
     (hand .ensures) (leave .ensures)
 
@@ -63,7 +69,7 @@ sv-read-text-spec =
     device-in-requires
     read-text-requires
     hand-requires
-    leave-requires
+    leave-queue-requires
     same-length-2
     same-length-3
     returns-2)
