@@ -13,8 +13,11 @@ use Rattle.ids.specs.Ids.{rawOf}
 use Rattle.ids.specs.Frames.{carried}
 use Rattle.ids.specs.declared.Header.{Header}
 use Rattle.ids.proofs.Frames.{carried-le}
-use Rattle.message_text.specs.Reading.{isBad, headerOf, allBytes, judgedData, judged}
+use Rattle.message_text.specs.Reading.{isBad, headerOf, allBytes, judgedData, judged, readMessage}
+use Rattle.message_text.specs.Numbers.{numbers, beforeEnd, usedOf}
 use Rattle.message_text.specs.Scan.{keptFrom, keptOf}
+use Rattle.message_text.specs.declared.Kept.{Kept}
+use Rattle.message_text.specs.declared.Said.{Said}
 use Rattle.message_text.specs.declared.Answer.the-variants.{Taken}
 use Rattle.common.proofs.Choices.{by-test, pick-same}
 use Rattle.message_text.proofs.Ids.{raw-capped}
@@ -69,7 +72,7 @@ module _ (a b c : ℕ) (values : List ℕ) (used : ℕ) where
       rw (r, d) (same-data (headerOf align format (a ∷ b ∷ c ∷ values)) (capped a) b c))))))
 
 -- the numbers kept say what all the numbers say
-pub kept-judged : (align format : ℕ) (values : List ℕ) (used : ℕ)
+kept-judged : (align format : ℕ) (values : List ℕ) (used : ℕ)
     → judged align format (keptOf values .count) (keptOf values .at) used ≡ judged align format (length values) values used
 unfolding keptFrom judged
 kept-judged align format [] used = refl
@@ -83,3 +86,9 @@ kept-judged align format (a ∷ b ∷ c ∷ values) used =
     three =
         padded-one 10 a (b ∷ c ∷ values)
         ∙ ap (λ (l : List ℕ). capped a ∷ l) (padded-one 9 b (c ∷ values) ∙ ap (λ (l : List ℕ). capped b ∷ l) (padded-one 8 c values))
+
+-- so a text with an end says what was judged of the numbers kept
+pub text-judged : (align format : ℕ) (t : List ℕ) (k : Kept) (used : ℕ) {r : Said} → beforeEnd t < length t → k ≡ keptOf (numbers t) → used ≡ usedOf t
+    → r ≡ judged align format (k .count) (k .at) used → r ≡ readMessage align format t
+unfolding readMessage
+text-judged align format t k used h e u j = j ∙ rw (e, u, lt-ltb (beforeEnd t) (length t) h) (kept-judged align format (numbers t) (usedOf t))

@@ -121,12 +121,12 @@ module _ (k : Device) (box : List (List ℕ)) (q : Queue) (t out : List ℕ) (w 
   unfolding step textRead meaning calm usual sentBy leftBy
   text-does =
       rw (possible, long)
-      (meaning-ways readText k box q t (usual readText) w waits (ltb (length out) 80)
-      (λ z. refusal readText k box q t (usual readText) w waits 3 0 [] out (nothing-sent readText k box refl) refl refl)
-      (λ z. same-ways readText k box q t (usual readText) w waits (eqb (q .ring .count) 0)
+      (by-test (ltb (length out) 80)
+      (λ z. rw z (refusal readText k box q t (usual readText) w waits 3 0 [] out (nothing-sent readText k box refl) refl refl))
+      (λ z. rw z (same-ways readText k box q t (usual readText) w waits (eqb (q .ring .count) 0)
       (λ c. settled readText k box q t (usual readText) w waits k reads q 4 0 [] out (none c) refl refl refl refl (w .possible) (λ z. refl))
       (λ c. rw (oldest-event c)
-      (settled readText k box q t (usual readText) w waits k reads (takeOne q) 0 _ [] _ (some c) refl refl refl refl (w .possible) (λ z. refl)))))
+      (settled readText k box q t (usual readText) w waits k reads (takeOne q) 0 _ [] _ (some c) refl refl refl refl (w .possible) (λ z. refl))))))
 
   -- a look changes nothing
   pub look-does : (p : ℕ) → Doing (look p)

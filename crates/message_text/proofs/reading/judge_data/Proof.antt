@@ -1,3 +1,4 @@
+use Prim.Native.Nat.{_+_}
 use native.Mathlib.Omega.{arith}
 use borrow.Author.Needs.{needs}
 use borrow.Author.Tests.{lt-ltb, le-ltb}
@@ -21,7 +22,9 @@ refuse-requires c κs = search needs
 
 returns : tie.Need-returns
 unfolding judgedData
-returns c = rw (c .refuse .ensures, ← c .before .before .carried-by .ensures, lt-ltb _ _ (c .before .if1 .taken))
+returns c =
+    let carried = c .before .before .carried-by in
+    rw (c .refuse .ensures, ← carried .ensures, lt-ltb _ (3 + carried .result) (c .before .if1 .taken))
 
 refuse-requires-2 : tie.Need-refuse-requires-2
 refuse-requires-2 c κs = search needs

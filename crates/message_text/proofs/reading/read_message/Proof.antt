@@ -1,11 +1,11 @@
 use mathlib.Core.Path.{sym, _∙_}
 use native.Mathlib.Omega.{arith}
-use borrow.Author.Tests.{lt-ltb, le-ltb}
+use borrow.Author.Tests.{le-ltb}
 use denote.Ref.{now}
 use lib.ListN.{length}
-use Rattle.message_text.specs.Numbers.{numbers, beforeEnd, usedOf}
+use Rattle.message_text.specs.Numbers.{beforeEnd}
 use Rattle.message_text.specs.Reading.{readMessage}
-use Rattle.message_text.proofs.Judging.{kept-judged}
+use Rattle.message_text.proofs.Judging.{text-judged}
 use borrow.Author.Needs.{needs}
 use Rattle.message_text.proofs.reading.read_message.Statement.{statement}
 use Rattle.message_text.proofs.reading.read_message.Tie as tie
@@ -34,14 +34,12 @@ judge-requires : tie.Need-judge-requires
 judge-requires c κs = search needs
 
 returns-2 : tie.Need-returns-2
-unfolding readMessage
 returns-2 c =
     let a = c .before .before .before .before .before .before .before .args in
-    let t = now (a .text) in
     let s = c .before .before .before .before .before .scan in
+    let used = c .before .before .after-ends in
     let e = c .before .before .before .before .first-end .ensures ∙ sym (s .ensures .clear) in
-    rw (c .judge .ensures, s .ensures .kept, c .before .before .after-ends .ensures, e, lt-ltb (beforeEnd t) (length t) (omega arith))
-    (kept-judged (a .align) (a .format) (numbers t) (usedOf t))
+    text-judged (a .align) (a .format) (now (a .text)) _ (used .result) (omega arith) (s .ensures .kept) (used .ensures ∙ rw e) (c .judge .ensures)
 
 pub read-message-spec : {M : Type 1} → statement M
 read-message-spec =

@@ -21,7 +21,7 @@ answer-requires-2 c κs = search needs
 
 returns-2 : tie.Need-returns-2
 unfolding eventMaskSet
-returns-2 c = c .answer2 .ensures ∙ rw (said (c .before .before .before .is-good .ensures) (c .before .before .if1 .left), le-ltb _ _ (c .before .if2 .taken))
+returns-2 c = c .answer2 .ensures ∙ rw (said (c .before .before .before .is-good .ensures) (c .before .before .if1 .left), le-ltb _ 4096 (c .before .if2 .taken))
 
 with-receive-requires : tie.Need-with-receive-requires
 with-receive-requires c κs = search needs
@@ -35,7 +35,7 @@ returns-3 c =
     let is-good = c .before .before .before .before .before .before .before .is-good in
     let if1 = c .before .before .before .before .before .before .if1 in
     let if2 = c .before .before .before .before .before .if2 in
-    c .answer3 .ensures ∙ rw (said (is-good .ensures) (if1 .left), lt-ltb _ _ (if2 .left), c .before .with-receive .ensures)
+    c .answer3 .ensures ∙ rw (said (is-good .ensures) (if1 .left), lt-ltb _ 4096 (if2 .left), c .before .with-receive .ensures)
 
 pub set-event-mask-spec : {M : Type 1} → statement M
 set-event-mask-spec =
