@@ -78,7 +78,8 @@ pub four-written : (a b c d at : ℕ) (s : List ℕ) {s0 s1 s2 s3 : List ℕ} �
     → s3 ≡ sets s2 (at + 12) (bytesOf 4 d) → s3 ≡ sets s at (words (a ∷ b ∷ c ∷ d ∷ []))
 four-written a b c d at s e0 e1 e2 e3 =
     e3 ∙ rw (e2, e1, e0)
-    (sym (sets-append s at (bytesOf 4 a ++ bytesOf 4 b ++ bytesOf 4 c) (bytesOf 4 d) ∙ ap (λ (t : List ℕ). sets t (at + 12) (bytesOf 4 d)) (sets-append s at (bytesOf 4 a ++ bytesOf 4 b) (bytesOf 4 c)
+    (sym (sets-append s at (bytesOf 4 a ++ bytesOf 4 b ++ bytesOf 4 c) (bytesOf 4 d)
+    ∙ ap (λ (t : List ℕ). sets t (at + 12) (bytesOf 4 d)) (sets-append s at (bytesOf 4 a ++ bytesOf 4 b) (bytesOf 4 c)
     ∙ ap (λ (t : List ℕ). sets t (at + 8) (bytesOf 4 c)) (sets-append s at (bytesOf 4 a) (bytesOf 4 b)))))
 
 -- three parts behind each other

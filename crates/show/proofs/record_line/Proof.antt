@@ -62,7 +62,8 @@ returns : tie.Need-returns Inv-loop μ-loop
 returns c =
     let s = c .before .before .before .before .before .args in
     let l = c .before .before .before .before .loop in
-    held (then (pairs-done (s .t1) (l .i) (l .inv .0) (omega arith) (omega arith)) (c .before .put-byte .ensures)) (rw (length-append (pairs (s .t1)) (10 ∷ [])) (omega (arith, pairs-length (s .t1))))
+    held (then (pairs-done (s .t1) (l .i) (l .inv .0) (omega arith) (omega arith)) (c .before .put-byte .ensures))
+    (rw (length-append (pairs (s .t1)) (10 ∷ [])) (omega (arith, pairs-length (s .t1))))
 
 pub record-line-spec : {M : Type 1} → statement M
 record-line-spec =

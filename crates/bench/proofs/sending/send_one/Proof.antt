@@ -39,7 +39,9 @@ same-length-4 : tie.Need-same-length-4
 same-length-4 c = search needs
 
 same-length-5 : tie.Need-same-length-5
-same-length-5 c = c .before .before .before .before .before .before .before .before .before .before .before .before .before .before .before .before .before .before .before .before .send-text .kept .1 .1 .0
+same-length-5 c =
+    let past = c .before .before .before .before .before .before .before .before .before .before in
+    past .before .before .before .before .before .before .before .before .before .before .send-text .kept .1 .1 .0
 
 returns-3 : tie.Need-returns-3
 returns-3 c = search needs

@@ -21,9 +21,11 @@ same-length c = search needs
 
 returns-2 : tie.Need-returns-2
 returns-2 c =
-    let s = c .before .before .before .before .before .before .before .before .before .before in
-    let t = queue-written (now (s .args .state)) (s .args .d) (λ i. c .before .before .before .before .before .before .before .before .before .slice-known .given i .fits) (s .pre .0) (s .pre .1) (c .before .before .write-four .ensures) in
-    record { number-is = refl; state-bytes = t ∙ kept-new _ _ _ (c .before .before .before .before .before .before .before .before .is-refusal .ensures) (c .before .before .before .before .before .before .before .if1 .left) }
+    let past = c .before .before .before .before .before .before .before in
+    let known = past .before .before in
+    let s = known .before in
+    let t = queue-written (now (s .args .state)) (s .args .d) (λ i. known .slice-known .given i .fits) (s .pre .0) (s .pre .1) (c .before .before .write-four .ensures) in
+    record { number-is = refl; state-bytes = t ∙ kept-new _ _ _ (past .before .is-refusal .ensures) (past .if1 .left) }
 
 pub leave-queue-spec : {M : Type 1} → statement M
 leave-queue-spec =

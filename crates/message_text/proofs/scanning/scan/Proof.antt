@@ -65,14 +65,15 @@ digits-less c = search needs
 
 digits-again : tie.Need-digits-again Inv-digits μ-digits Inv-numbers μ-numbers
 digits-again c =
-    let k = c .before .before .before .byte-kind2 in
-    (cut (digit (c .before .before .before .before .before .before .digits .inv .0) (omega arith) (k .ensures) (omega arith)) (c .with-digit .ensures), search needs, search needs, search needs)
+    let k = c .before .before .before in
+    (cut (digit (k .before .before .before .digits .inv .0) (omega arith) (k .byte-kind2 .ensures) (omega arith)) (c .with-digit .ensures), search needs, search needs, search needs)
 
 -- where the loop over the digits is left, the number is whole, behind the last byte or behind a separator
 left :
     (c : tie.Left-digits Inv-digits μ-digits Inv-numbers μ-numbers)
     → (c .before .digits .i ≤ c .digits-test .i)
-    × Going (now (c .before .before .before .before .before .before .before .before .before .args .text)) between (keptMore (kept (c .before .digits .n) (c .before .digits .at)) (c .before .digits .v)) (c .digits-test .i)
+    × Going (now (c .before .before .before .before .before .before .before .before .before .args .text)) between
+    (keptMore (kept (c .before .digits .n) (c .before .digits .at)) (c .before .digits .v)) (c .digits-test .i)
 left c =
     let s = c .before .digits in
     ⊎-elim

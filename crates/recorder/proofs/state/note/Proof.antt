@@ -11,7 +11,9 @@ past-filter-requires : tie.Need-past-filter-requires
 past-filter-requires c κs = search needs
 
 after-raise-requires : tie.Need-after-raise-requires
-after-raise-requires c κs = let a = c .before .before .before .before .before .before .args in room-for (next-past (a .d .receive) (a .e) (now (a .table))) (c .before .before .past-filter .ensures .number)
+after-raise-requires c κs =
+    let a = c .before .before .before .before .before .before .args in
+    room-for (next-past (a .d .receive) (a .e) (now (a .table))) (c .before .before .past-filter .ensures .number)
 
 with-receive-requires : tie.Need-with-receive-requires
 with-receive-requires c κs = search needs

@@ -46,7 +46,11 @@ write-text-requires : tie.Need-write-text-requires
 write-text-requires c κs = search needs
 
 same-length : tie.Need-same-length
-same-length c = c .before .before .before .before .before .before .before .raise-and-read3 .kept .1 .1 .1 .1 .0 ∙ c .before .before .before .before .before .before .before .before .before .before .before .before .before .raise-and-read2 .kept .1 .1 .1 .1 .0 ∙ c .before .before .before .before .before .before .before .before .before .before .before .before .before .before .before .before .before .before .before .raise-and-read .kept .1 .1 .1 .1 .0
+same-length c =
+    let third = c .before .before .before .before .before .before .before in
+    let second = third .before .before .before .before .before .before in
+    let first = second .before .before .before .before .before .before in
+    third .raise-and-read3 .kept .1 .1 .1 .1 .0 ∙ second .raise-and-read2 .kept .1 .1 .1 .1 .0 ∙ first .raise-and-read .kept .1 .1 .1 .1 .0
 
 returns : tie.Need-returns
 returns c = search needs
