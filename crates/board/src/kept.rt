@@ -240,7 +240,7 @@ pub fn leave(state: &mut [u8], number: u32, d: Device) -> u32
     number
 }
 
-// The same after a raise or a read, which move the event queue alone: only its numbers are written.
+// The same after a raise or a read, which move the event queue alone: its numbers are written, and TxMode behind them as it was.
 pub fn leave_queue(state: &mut [u8], number: u32, d: Device) -> u32
     requires { ⌜ (isState (now state) ≡ true) × (d ≡ queueMoved (deviceIn (now state)) (d .receive)) ⌝ }
     ensures { λ n. ⌜ Left number d (now (state .entry)) n (now (state .exit)) ⌝ }
