@@ -40,8 +40,14 @@ put-decimal-requires-2 c κs =
     let number = c .before .before .before .before .before .before in
     let word = number .before .before .before in
     let a = word .before .before .before .args in
-    omega (arith, decimal-length-le (a .number) (search needs), decimal-length-le (a .used) (search needs),
-    c .before .before .put-text2 .ensures .place, number .put-decimal .ensures .place, word .put-text .ensures .place)
+    omega (
+      arith,
+      decimal-length-le (a .number) (search needs),
+      decimal-length-le (a .used) (search needs),
+      c .before .before .put-text2 .ensures .place,
+      number .put-decimal .ensures .place,
+      word .put-text .ensures .place,
+    )
 
 slice-aggregate-put-byte : tie.Need-slice-aggregate-put-byte
 slice-aggregate-put-byte c = search needs
@@ -52,8 +58,15 @@ put-byte-requires c κs =
     let number = used .before .before .before .before in
     let word = number .before .before .before in
     let a = word .before .before .before .args in
-    omega (arith, decimal-length-le (a .number) (search needs), decimal-length-le (a .used) (search needs),
-    c .before .before .put-decimal2 .ensures .place, used .put-text2 .ensures .place, number .put-decimal .ensures .place, word .put-text .ensures .place)
+    omega (
+      arith,
+      decimal-length-le (a .number) (search needs),
+      decimal-length-le (a .used) (search needs),
+      c .before .before .put-decimal2 .ensures .place,
+      used .put-text2 .ensures .place,
+      number .put-decimal .ensures .place,
+      word .put-text .ensures .place,
+    )
 
 returns : tie.Need-returns
 returns c =

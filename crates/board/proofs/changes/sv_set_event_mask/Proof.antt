@@ -34,9 +34,10 @@ same-length-2 c = search needs
 
 returns-2 : tie.Need-returns-2
 returns-2 c =
-    let a = c .before .before .before .before .before .before .before .before .before .before .before .args in
-    let is-state = c .before .before .before .before .before .before .before .before .is-state in
-    let if1 = c .before .before .before .before .before .before .before .if1 in
+    let past = c .before .before .before .before .before .before .before in
+    let a = past .before .before .before .before .args in
+    let is-state = past .before .is-state in
+    let if1 = past .if1 in
     let device-in = c .before .before .before .before .before .device-in in
     let set-event-mask = c .before .before .before .before .set-event-mask in
     let leave = c .before .before .leave in

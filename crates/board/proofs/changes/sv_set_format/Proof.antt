@@ -28,8 +28,9 @@ set-format-requires c κs = search needs
 
 leave-requires : tie.Need-leave-requires
 leave-requires c κs =
-    let is-state = c .before .before .before .before .before .before .before .before .is-state in
-    let if1 = c .before .before .before .before .before .before .before .if1 in
+    let past = c .before .before .before .before .before .before .before in
+    let is-state = past .before .is-state in
+    let if1 = past .if1 in
     state-long _ (said (is-state .ensures) (if1 .left))
 
 same-length-2 : tie.Need-same-length-2
@@ -40,10 +41,11 @@ same-length-3 c = search needs
 
 returns-2 : tie.Need-returns-2
 returns-2 c =
-    let a = c .before .before .before .before .before .before .before .before .before .before .before .before .before .before .before .args in
-    let is-state = c .before .before .before .before .before .before .before .before .before .before .before .is-state in
-    let if1 = c .before .before .before .before .before .before .before .before .before .before .if1 in
-    let device-in = c .before .before .before .before .before .before .before .before .device-in in
+    let past = c .before .before .before .before .before .before .before .before in
+    let a = past .before .before .before .before .before .before .before .args in
+    let is-state = past .before .before .before .is-state in
+    let if1 = past .before .before .if1 in
+    let device-in = past .device-in in
     let set-format = c .before .before .before .before .before .before .set-format in
     let leave = c .before .before .leave in
     queue-called (formatSet (a .format) (a .tick)) (now (a .state)) (lends (now (a .queue)) [] []) (said (is-state .ensures) (if1 .left)) (device-in .ensures) (set-format .ensures)

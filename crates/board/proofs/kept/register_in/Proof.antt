@@ -47,12 +47,13 @@ shared-slice-read-t23 c = search needs
 returns : tie.Need-returns
 unfolding deviceIn
 returns c =
-    let pre = c .before .before .before .before .before .before .before .before .before .before .before .before .before .pre in
-    let word = c .before .before .before .before .before .before .before .before .before .before .before .word in
-    let word2 = c .before .before .before .before .before .before .before .before .before .before .word2 in
-    let word3 = c .before .before .before .before .before .before .before .before .before .word3 in
-    let word4 = c .before .before .before .before .before .before .before .before .word4 in
-    let s = now (c .before .before .before .before .before .before .before .before .before .before .before .before .before .args .s) in
+    let past = c .before .before .before .before .before .before .before .before in
+    let pre = past .before .before .before .before .before .pre in
+    let word = past .before .before .before .word in
+    let word2 = past .before .before .word2 in
+    let word3 = past .before .word3 in
+    let word4 = past .word4 in
+    let s = now (past .before .before .before .before .before .args .s) in
     let l : length s ≡ 88 = pre in
     rw (word .ensures, word2 .ensures, word3 .ensures, word4 .ensures, ← reads-slice s 80 8 (omega arith))
 

@@ -30,9 +30,10 @@ same-length c = search needs
 
 returns : tie.Need-returns
 returns c =
-    let a = c .before .before .before .before .before .before .before .before .before .before .before .before .before .before .before .before .before .args in
-    let write-word = c .before .before .before .before .before .before .before .before .before .before .before .before .before .before .write-word in
-    let write-word2 = c .before .before .before .before .before .before .before .before .before .before .write-word2 in
+    let past = c .before .before .before .before .before .before .before .before .before .before in
+    let a = past .before .before .before .before .before .before .before .args in
+    let write-word = past .before .before .before .before .write-word in
+    let write-word2 = past .write-word2 in
     let write-word3 = c .before .before .before .before .before .before .write-word3 in
     let write-word4 = c .before .before .write-word4 in
     four-written (a .a) (a .b) (a .c) (a .d) (a .at) (now (a .s)) (write-word .ensures) (write-word2 .ensures) (write-word3 .ensures) (write-word4 .ensures)

@@ -18,8 +18,9 @@ same-length c = search needs
 
 returns : tie.Need-returns
 returns c =
-    let a = c .before .before .before .before .before .before .before .before .before .before .before .before .before .before .before .args in
-    let write-four = c .before .before .before .before .before .before .before .before .before .before .write-four in
+    let past = c .before .before .before .before .before .before .before .before .before .before in
+    let a = past .before .before .before .before .before .args in
+    let write-four = past .write-four in
     let write-four2 = c .before .before .before .before .before .before .write-four2 in
     let write-four3 = c .before .before .write-four3 in
     front-written (a .shared) (a .receive) (a .tx) (now (a .state)) (write-four .ensures) (write-four2 .ensures) (write-four3 .ensures)

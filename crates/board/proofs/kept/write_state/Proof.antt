@@ -15,8 +15,9 @@ same-length c = search needs
 
 returns : tie.Need-returns
 returns c =
-    let a = c .before .before .before .before .before .before .before .before .before .before .before .before .args in
-    let pre = c .before .before .before .before .before .before .before .before .before .before .before .before .pre in
+    let past = c .before .before .before .before .before .before .before .before .before .before .before .before in
+    let a = past .args in
+    let pre = past .pre in
     let write-front = c .before .before .before .before .before .before .write-front in
     let write-rest = c .before .before .write-rest in
     state-written (a .d) (now (a .state)) (pre) (write-front .ensures) (write-rest .ensures)

@@ -32,8 +32,9 @@ same-length c = search needs
 
 returns-3 : tie.Need-returns-3
 returns-3 c =
-    let a = c .before .before .before .before .before .before .before .before .before .before .before .before .args in
-    let opened = c .before .before .before .before .before .before .before .before .«open» in
+    let past = c .before .before .before .before .before .before .before .before in
+    let a = past .before .before .before .before .args in
+    let opened = past .«open» in
     let if1 = c .before .before .before .before .before .before .if1 in
     let if2 = c .before .before .before .before .before .if2 in
     let write-state = c .before .before .write-state in

@@ -31,9 +31,10 @@ same-length c = search needs
 
 returns-2 : tie.Need-returns-2
 returns-2 c =
-    let a = c .before .before .before .before .before .before .before .before .before .before .before .before .args in
-    let is-state = c .before .before .before .before .before .before .before .before .is-state in
-    let if1 = c .before .before .before .before .before .before .before .if1 in
+    let past = c .before .before .before .before .before .before .before in
+    let a = past .before .before .before .before .before .args in
+    let is-state = past .before .is-state in
+    let if1 = past .if1 in
     let device-in = c .before .before .before .before .before .before .device-in in
     let print-message-record = c .before .before .before .before .print-message-record in
     print-called (messageRecordPrinted (now (a .s))) (now (a .state)) (lends [] [] (now (a .out))) (said (is-state .ensures) (if1 .left)) (device-in .ensures)

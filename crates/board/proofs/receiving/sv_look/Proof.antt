@@ -51,8 +51,9 @@ mul-offset c = search needs
 
 returns-3 : tie.Need-returns-3
 returns-3 c =
-    let a = c .before .before .before .before .before .before .before .before .before .before .args in
-    let is-state = c .before .before .before .before .before .before .before .is-state in
+    let past = c .before .before .before .before .before .before .before in
+    let a = past .before .before .before .args in
+    let is-state = past .is-state in
     let if1 = c .before .before .before .before .before .before .if1 in
     let device-in = c .before .before .before .before .before .device-in in
     let look-number = c .before .before .before .before .look-number in

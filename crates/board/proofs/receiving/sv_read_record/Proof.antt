@@ -46,11 +46,12 @@ same-length-2 c = search needs
 
 returns-2 : tie.Need-returns-2
 returns-2 c =
-    let a = c .before .before .before .before .before .before .before .before .before .before .before .before .before .before .before .args in
-    let is-state = c .before .before .before .before .before .before .before .before .before .before .before .is-state in
-    let if1 = c .before .before .before .before .before .before .before .before .before .before .if1 in
-    let device-in = c .before .before .before .before .before .before .before .before .device-in in
-    let read-record = c .before .before .before .before .before .before .before .read-record in
+    let past = c .before .before .before .before .before .before .before in
+    let a = past .before .before .before .before .before .before .before .before .args in
+    let is-state = past .before .before .before .before .is-state in
+    let if1 = past .before .before .before .if1 in
+    let device-in = past .before .device-in in
+    let read-record = past .read-record in
     let hand-event = c .before .before .before .before .hand-event in
     let leave = c .before .before .leave-queue in
     record-called recordRead (now (a .state)) (lends (now (a .queue)) [] []) (said (is-state .ensures) (if1 .left)) (device-in .ensures) (read-record .ensures)

@@ -49,11 +49,12 @@ same-length-3 c = search needs
 
 returns-2 : tie.Need-returns-2
 returns-2 c =
-    let a = c .before .before .before .before .before .before .before .before .before .before .before .before .before .before .before .before .before .before .args in
-    let is-state = c .before .before .before .before .before .before .before .before .before .before .before .before .before .is-state in
-    let if1 = c .before .before .before .before .before .before .before .before .before .before .before .before .if1 in
-    let device-in = c .before .before .before .before .before .before .before .before .before .before .device-in in
-    let read-text = c .before .before .before .before .before .before .before .before .read-text in
+    let past = c .before .before .before .before .before .before .before .before in
+    let a = past .before .before .before .before .before .before .before .before .before .before .args in
+    let is-state = past .before .before .before .before .before .is-state in
+    let if1 = past .before .before .before .before .if1 in
+    let device-in = past .before .before .device-in in
+    let read-text = past .read-text in
     let hand = c .before .before .before .before .hand in
     let leave = c .before .before .leave-queue in
     text-called textRead (now (a .state)) (lends (now (a .queue)) [] (now (a .out))) (said (is-state .ensures) (if1 .left)) (device-in .ensures) (read-text .ensures)

@@ -31,8 +31,9 @@ hand-number-requires c κs = search needs
 
 leave-requires : tie.Need-leave-requires
 leave-requires c κs =
-    let is-state = c .before .before .before .before .before .before .before .before .before .before .before .before .is-state in
-    let if1 = c .before .before .before .before .before .before .before .before .before .before .before .if1 in
+    let past = c .before .before .before .before .before .before .before .before .before .before .before in
+    let is-state = past .before .is-state in
+    let if1 = past .if1 in
     state-long _ (said (is-state .ensures) (if1 .left))
 
 same-length-2 : tie.Need-same-length-2
@@ -43,11 +44,13 @@ same-length-3 c = search needs
 
 returns-2 : tie.Need-returns-2
 returns-2 c =
-    let a = c .before .before .before .before .before .before .before .before .before .before .before .before .before .before .before .before .before .before .before .args in
-    let is-state = c .before .before .before .before .before .before .before .before .before .before .before .before .before .before .before .is-state in
-    let if1 = c .before .before .before .before .before .before .before .before .before .before .before .before .before .before .if1 in
-    let device-in = c .before .before .before .before .before .before .before .before .before .before .before .before .device-in in
-    let abort = c .before .before .before .before .before .before .before .before .abort in
+    let past = c .before .before .before .before .before .before .before .before in
+    let older = past .before .before .before .before .before .before in
+    let a = older .before .before .before .before .before .args in
+    let is-state = older .before .is-state in
+    let if1 = older .if1 in
+    let device-in = past .before .before .before .before .device-in in
+    let abort = past .abort in
     let hand-number = c .before .before .before .before .hand-number in
     let leave = c .before .before .leave in
     abort-called (a .tick) (now (a .state)) (lends (now (a .queue)) [] []) (said (is-state .ensures) (if1 .left)) (device-in .ensures) (abort .ensures) (hand-number .ensures)

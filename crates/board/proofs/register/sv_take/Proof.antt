@@ -31,8 +31,9 @@ hand-message-requires c κs = search needs
 
 leave-requires : tie.Need-leave-requires
 leave-requires c κs =
-    let is-state = c .before .before .before .before .before .before .before .before .before .before .before .is-state in
-    let if1 = c .before .before .before .before .before .before .before .before .before .before .if1 in
+    let past = c .before .before .before .before .before .before .before .before .before .before in
+    let is-state = past .before .is-state in
+    let if1 = past .if1 in
     state-long _ (said (is-state .ensures) (if1 .left))
 
 same-length-2 : tie.Need-same-length-2
@@ -43,11 +44,12 @@ same-length-3 c = search needs
 
 returns-2 : tie.Need-returns-2
 returns-2 c =
-    let a = c .before .before .before .before .before .before .before .before .before .before .before .before .before .before .before .before .before .before .before .args in
-    let is-state = c .before .before .before .before .before .before .before .before .before .before .before .before .before .before .is-state in
-    let if1 = c .before .before .before .before .before .before .before .before .before .before .before .before .before .if1 in
-    let device-in = c .before .before .before .before .before .before .before .before .before .before .before .device-in in
-    let take = c .before .before .before .before .before .before .before .before .before .take in
+    let past = c .before .before .before .before .before .before .before .before .before in
+    let a = past .before .before .before .before .before .before .before .before .before .before .args in
+    let is-state = past .before .before .before .before .before .is-state in
+    let if1 = past .before .before .before .before .if1 in
+    let device-in = past .before .before .device-in in
+    let take = past .take in
     let hand-message = c .before .before .before .before .hand-message in
     let leave = c .before .before .leave in
     take-called (taken (a .tick)) (now (a .state)) (lends (now (a .queue)) (now (a .send)) []) (said (is-state .ensures) (if1 .left)) (device-in .ensures) (take .ensures)

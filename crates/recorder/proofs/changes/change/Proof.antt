@@ -62,12 +62,13 @@ same-length c = search needs
 
 returns-3 : tie.Need-returns-3
 returns-3 c =
-    let a = c .before .before .before .before .before .before .before .before .before .before .before .before .before .args in
-    let queue-ready = c .before .before .before .before .before .before .before .before .before .before .before .queue-ready in
-    let if1 = c .before .before .before .before .before .before .before .before .before .before .if1 in
-    let is-shared = c .before .before .before .before .before .before .before .before .before .is-shared in
-    let if2 = c .before .before .before .before .before .before .before .before .if2 in
-    let no-message = c .before .before .before .before .before .before .before .no-message in
+    let past = c .before .before .before .before .before .before .before in
+    let a = past .before .before .before .before .before .before .args in
+    let queue-ready = past .before .before .before .before .queue-ready in
+    let if1 = past .before .before .before .if1 in
+    let is-shared = past .before .before .is-shared in
+    let if2 = past .before .if2 in
+    let no-message = past .no-message in
     let event-of = c .before .before .before .before .before .before .event-of in
     let with-shared = c .before .before .before .before .before .with-shared in
     let note = c .before .before .before .note in

@@ -59,9 +59,10 @@ answer-requires-3 c κs = search needs
 
 returns-3 : tie.Need-returns-3
 returns-3 c =
-    let a = c .before .before .before .before .before .before .before .before .before .before .before .args in
-    let fresh-device = c .before .before .before .before .before .before .before .before .fresh-device in
-    let is-good = c .before .before .before .before .before .before .before .is-good in
+    let past = c .before .before .before .before .before .before .before in
+    let a = past .before .before .before .before .args in
+    let fresh-device = past .before .fresh-device in
+    let is-good = past .is-good in
     let if1 = c .before .before .before .before .before .before .if1 in
     let fits2 = c .before .before .before .before .before .fits2 in
     let if2 = c .before .before .before .before .if2 in
@@ -76,8 +77,9 @@ answer-requires-4 c κs = search needs
 
 returns-4 : tie.Need-returns-4
 returns-4 c =
-    let a = c .before .before .before .before .before .before .before .before .before .before .args in
-    let fresh-device = c .before .before .before .before .before .before .before .fresh-device in
+    let past = c .before .before .before .before .before .before .before in
+    let a = past .before .before .before .args in
+    let fresh-device = past .fresh-device in
     let is-good = c .before .before .before .before .before .before .is-good in
     let if1 = c .before .before .before .before .before .if1 in
     let fits2 = c .before .before .before .before .fits2 in

@@ -38,9 +38,10 @@ answer-requires-2 c κs = search needs
 
 returns-2 : tie.Need-returns-2
 returns-2 c =
-    let a = c .before .before .before .before .before .before .before .before .before .before .before .before .args in
-    let queue-ready = c .before .before .before .before .before .before .before .before .before .before .queue-ready in
-    let if1 = c .before .before .before .before .before .before .before .before .before .if1 in
+    let past = c .before .before .before .before .before .before .before .before .before in
+    let a = past .before .before .before .args in
+    let queue-ready = past .before .queue-ready in
+    let if1 = past .if1 in
     let after-abort = c .before .before .before .before .after-abort in
     let with-send = c .before .before .before .with-send in
     queue-met 0 _ [] _ _ (abort-quiet (a .tick) (a .d) (lends (now (a .queue)) [] []) (said (queue-ready .ensures) (if1 .left)) (not-true _ (c .before .if2 .taken)))
@@ -64,11 +65,13 @@ same-length c = search needs
 
 returns-3 : tie.Need-returns-3
 returns-3 c =
-    let a = c .before .before .before .before .before .before .before .before .before .before .before .before .before .before .before .before .before .args in
-    let queue-ready = c .before .before .before .before .before .before .before .before .before .before .before .before .before .before .before .queue-ready in
-    let if1 = c .before .before .before .before .before .before .before .before .before .before .before .before .before .before .if1 in
-    let after-abort = c .before .before .before .before .before .before .before .before .before .after-abort in
-    let with-send = c .before .before .before .before .before .before .before .before .with-send in
+    let past = c .before .before .before .before .before .before .before .before in
+    let older = past .before .before .before .before .before .before in
+    let a = older .before .before .before .args in
+    let queue-ready = older .before .queue-ready in
+    let if1 = older .if1 in
+    let after-abort = past .before .after-abort in
+    let with-send = past .with-send in
     let if2 = c .before .before .before .before .before .before .if2 in
     let event-of = c .before .before .before .before .before .event-of in
     let note = c .before .before .before .note in

@@ -48,9 +48,10 @@ answer-requires-3 c κs = search needs
 
 returns-3 : tie.Need-returns-3
 returns-3 c =
-    let a = c .before .before .before .before .before .before .before .before .before .before .before .before .args in
-    let queue-ready = c .before .before .before .before .before .before .before .before .before .before .queue-ready in
-    let if1 = c .before .before .before .before .before .before .before .before .before .if1 in
+    let past = c .before .before .before .before .before .before .before .before .before in
+    let a = past .before .before .before .args in
+    let queue-ready = past .before .queue-ready in
+    let if1 = past .if1 in
     let if2 = c .before .before .before .before .before .before .if2 in
     let after-done = c .before .before .before .before .after-done in
     let with-send = c .before .before .before .with-send in
@@ -76,13 +77,15 @@ same-length c = search needs
 
 returns-4 : tie.Need-returns-4
 returns-4 c =
-    let a = c .before .before .before .before .before .before .before .before .before .before .before .before .before .before .before .before .before .args in
-    let queue-ready = c .before .before .before .before .before .before .before .before .before .before .before .before .before .before .before .queue-ready in
-    let if1 = c .before .before .before .before .before .before .before .before .before .before .before .before .before .before .if1 in
-    let if2 = c .before .before .before .before .before .before .before .before .before .before .before .if2 in
-    let after-done = c .before .before .before .before .before .before .before .before .before .after-done in
-    let with-send = c .before .before .before .before .before .before .before .before .with-send in
-    let raises-at-done = c .before .before .before .before .before .before .before .raises-at-done in
+    let past = c .before .before .before .before .before .before .before in
+    let older = past .before .before .before .before .before .before .before in
+    let a = older .before .before .before .args in
+    let queue-ready = older .before .queue-ready in
+    let if1 = older .if1 in
+    let if2 = past .before .before .before .before .if2 in
+    let after-done = past .before .before .after-done in
+    let with-send = past .before .with-send in
+    let raises-at-done = past .raises-at-done in
     let if3 = c .before .before .before .before .before .before .if3 in
     let event-of = c .before .before .before .before .before .event-of in
     let note = c .before .before .before .note in

@@ -46,9 +46,10 @@ not-taken-requires-3 c κs = search needs
 
 returns-3 : tie.Need-returns-3
 returns-3 c =
-    let a = c .before .before .before .before .before .before .before .before .before .before .before .args in
-    let queue-ready = c .before .before .before .before .before .before .before .before .queue-ready in
-    let if1 = c .before .before .before .before .before .before .before .if1 in
+    let past = c .before .before .before .before .before .before .before in
+    let a = past .before .before .before .before .args in
+    let queue-ready = past .before .queue-ready in
+    let if1 = past .if1 in
     let fits2 = c .before .before .before .before .before .fits2 in
     let if2 = c .before .before .before .before .if2 in
     let take = c .before .before .before .take in
@@ -66,12 +67,13 @@ raises-at-take-requires c κs = search needs
 
 returns-4 : tie.Need-returns-4
 returns-4 c =
-    let a = c .before .before .before .before .before .before .before .before .before .before .before .before .before .before .before .before .args in
-    let queue-ready = c .before .before .before .before .before .before .before .before .before .before .before .before .before .queue-ready in
-    let if1 = c .before .before .before .before .before .before .before .before .before .before .before .before .if1 in
-    let fits2 = c .before .before .before .before .before .before .before .before .before .before .fits2 in
-    let if2 = c .before .before .before .before .before .before .before .before .before .if2 in
-    let take = c .before .before .before .before .before .before .before .before .take in
+    let past = c .before .before .before .before .before .before .before .before in
+    let a = past .before .before .before .before .before .before .before .before .args in
+    let queue-ready = past .before .before .before .before .before .queue-ready in
+    let if1 = past .before .before .before .before .if1 in
+    let fits2 = past .before .before .fits2 in
+    let if2 = past .before .if2 in
+    let take = past .take in
     let if3 = c .before .before .before .before .before .before .if3 in
     let bytes-of = c .before .before .before .bytes-of in
     take-met 0 0 _ _ _
@@ -94,15 +96,17 @@ same-length c = search needs
 
 returns-5 : tie.Need-returns-5
 returns-5 c =
-    let a = c .before .before .before .before .before .before .before .before .before .before .before .before .before .before .before .before .before .before .before .before .before .args in
-    let queue-ready = c .before .before .before .before .before .before .before .before .before .before .before .before .before .before .before .before .before .before .queue-ready in
-    let if1 = c .before .before .before .before .before .before .before .before .before .before .before .before .before .before .before .before .before .if1 in
-    let fits2 = c .before .before .before .before .before .before .before .before .before .before .before .before .before .before .before .fits2 in
-    let if2 = c .before .before .before .before .before .before .before .before .before .before .before .before .before .before .if2 in
-    let take = c .before .before .before .before .before .before .before .before .before .before .before .before .before .take in
-    let if3 = c .before .before .before .before .before .before .before .before .before .before .before .if3 in
-    let bytes-of = c .before .before .before .before .before .before .before .before .bytes-of in
-    let with-send = c .before .before .before .before .before .before .before .with-send in
+    let past = c .before .before .before .before .before .before .before in
+    let older = past .before .before .before .before .before .before in
+    let a = older .before .before .before .before .before .before .before .before .args in
+    let queue-ready = older .before .before .before .before .before .queue-ready in
+    let if1 = older .before .before .before .before .if1 in
+    let fits2 = older .before .before .fits2 in
+    let if2 = older .before .if2 in
+    let take = older .take in
+    let if3 = past .before .before .before .before .if3 in
+    let bytes-of = past .before .bytes-of in
+    let with-send = past .with-send in
     let raises-at-take = c .before .before .before .before .before .before .raises-at-take in
     let if4 = c .before .before .before .before .before .if4 in
     let event-of = c .before .before .before .before .event-of in

@@ -36,8 +36,9 @@ same-length-2 c = search needs
 
 returns-2 : tie.Need-returns-2
 returns-2 c =
-    let a = c .before .before .before .before .before .before .before .before .before .before .before .args in
-    let put = c .before .before .before .before .before .before .before .put in
+    let past = c .before .before .before .before .before .before .before in
+    let a = past .before .before .before .before .args in
+    let put = past .put in
     let if1 = c .before .before .before .if1 in
     send-met 0 _ [] _ _ (put-done (a .m) (a .value) (a .d) (lends [] (now (a .send)) []) _ (put .ensures .number) (if1 .left))
     (c .answer2 .ensures ∙ rw (c .before .with-send .ensures, put .ensures .send)) (put .ensures .table)

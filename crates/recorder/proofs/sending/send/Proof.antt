@@ -31,8 +31,9 @@ answer-requires-2 c κs = search needs
 
 returns-2 : tie.Need-returns-2
 returns-2 c =
-    let a = c .before .before .before .before .before .before .before .before .before .args in
-    let send-ready = c .before .before .before .before .before .before .before .send-ready in
+    let past = c .before .before .before .before .before .before .before in
+    let a = past .before .before .args in
+    let send-ready = past .send-ready in
     let if1 = c .before .before .before .before .before .before .if1 in
     let format-of = c .before .before .before .format-of in
     send-met 13 0 [] _ _ (send-no-format (a .m) (a .d) (lends [] (now (a .send)) []) (said (send-ready .ensures) (if1 .left)) _ (format-of .ensures)
@@ -46,9 +47,10 @@ answer-requires-3 c κs = search needs
 
 returns-3 : tie.Need-returns-3
 returns-3 c =
-    let a = c .before .before .before .before .before .before .before .before .before .before .before .args in
-    let send-ready = c .before .before .before .before .before .before .before .before .before .send-ready in
-    let if1 = c .before .before .before .before .before .before .before .before .if1 in
+    let past = c .before .before .before .before .before .before .before .before in
+    let a = past .before .before .before .args in
+    let send-ready = past .before .send-ready in
+    let if1 = past .if1 in
     let format-of = c .before .before .before .before .before .format-of in
     let is-format = c .before .before .before .before .is-format in
     let if2 = c .before .before .before .if2 in
@@ -69,11 +71,12 @@ answer-requires-4 c κs = search needs
 
 returns-4 : tie.Need-returns-4
 returns-4 c =
-    let a = c .before .before .before .before .before .before .before .before .before .before .before .before .before .before .args in
-    let send-ready = c .before .before .before .before .before .before .before .before .before .before .before .before .send-ready in
-    let if1 = c .before .before .before .before .before .before .before .before .before .before .before .if1 in
-    let format-of = c .before .before .before .before .before .before .before .before .format-of in
-    let is-format = c .before .before .before .before .before .before .before .is-format in
+    let past = c .before .before .before .before .before .before .before in
+    let a = past .before .before .before .before .before .before .before .args in
+    let send-ready = past .before .before .before .before .before .send-ready in
+    let if1 = past .before .before .before .before .if1 in
+    let format-of = past .before .format-of in
+    let is-format = past .is-format in
     let if2 = c .before .before .before .before .before .before .if2 in
     let mode-takes = c .before .before .before .before .before .mode-takes in
     let if3 = c .before .before .before .before .if3 in
@@ -86,14 +89,16 @@ answer-requires-5 c κs = search needs
 
 returns-5 : tie.Need-returns-5
 returns-5 c =
-    let a = c .before .before .before .before .before .before .before .before .before .before .before .before .before .before .before .before .before .args in
-    let send-ready = c .before .before .before .before .before .before .before .before .before .before .before .before .before .before .before .send-ready in
-    let if1 = c .before .before .before .before .before .before .before .before .before .before .before .before .before .before .if1 in
-    let format-of = c .before .before .before .before .before .before .before .before .before .before .before .format-of in
-    let is-format = c .before .before .before .before .before .before .before .before .before .before .is-format in
-    let if2 = c .before .before .before .before .before .before .before .before .before .if2 in
-    let mode-takes = c .before .before .before .before .before .before .before .before .mode-takes in
-    let if3 = c .before .before .before .before .before .before .before .if3 in
+    let past = c .before .before .before .before .before .before .before in
+    let older = past .before .before .before .before .before .before .before in
+    let a = older .before .before .before .args in
+    let send-ready = older .before .send-ready in
+    let if1 = older .if1 in
+    let format-of = past .before .before .before .before .format-of in
+    let is-format = past .before .before .before .is-format in
+    let if2 = past .before .before .if2 in
+    let mode-takes = past .before .mode-takes in
+    let if3 = past .if3 in
     let raw-id = c .before .before .before .before .before .before .raw-id in
     let id = c .before .before .before .before .id in
     send-met 9 0 [] _ _ (send-9 (a .m) (a .d) (lends [] (now (a .send)) []) (said (send-ready .ensures) (if1 .left)) _ (format-of .ensures)
@@ -104,15 +109,17 @@ answer-requires-6 c κs = search needs
 
 returns-6 : tie.Need-returns-6
 returns-6 c =
-    let a = c .before .before .before .before .before .before .before .before .before .before .before .before .before .before .before .before .before .before .before .args in
-    let send-ready = c .before .before .before .before .before .before .before .before .before .before .before .before .before .before .before .before .before .send-ready in
-    let if1 = c .before .before .before .before .before .before .before .before .before .before .before .before .before .before .before .before .if1 in
-    let format-of = c .before .before .before .before .before .before .before .before .before .before .before .before .before .format-of in
-    let is-format = c .before .before .before .before .before .before .before .before .before .before .before .before .is-format in
-    let if2 = c .before .before .before .before .before .before .before .before .before .before .before .if2 in
-    let mode-takes = c .before .before .before .before .before .before .before .before .before .before .mode-takes in
-    let if3 = c .before .before .before .before .before .before .before .before .before .if3 in
-    let raw-id = c .before .before .before .before .before .before .before .before .raw-id in
+    let past = c .before .before .before .before .before .before .before .before in
+    let older = past .before .before .before .before .before .before .before .before in
+    let a = older .before .before .before .args in
+    let send-ready = older .before .send-ready in
+    let if1 = older .if1 in
+    let format-of = past .before .before .before .before .before .format-of in
+    let is-format = past .before .before .before .before .is-format in
+    let if2 = past .before .before .before .if2 in
+    let mode-takes = past .before .before .mode-takes in
+    let if3 = past .before .if3 in
+    let raw-id = past .raw-id in
     let id = c .before .before .before .before .before .before .id in
     let if4 = c .before .before .before .if4 in
     send-met 10 0 [] _ _ (send-10 (a .m) (a .d) (lends [] (now (a .send)) []) (said (send-ready .ensures) (if1 .left)) _ (format-of .ensures)
@@ -129,7 +136,8 @@ same-length c = search needs
 
 returns-7 : tie.Need-returns-7
 returns-7 c =
-    let early = c .before .before .before .before .before .before .before .before .before .before .before in
+    let past = c .before .before .before .before .before .before .before .before in
+    let early = past .before .before .before in
     let a = early .before .before .before .before .before .before .before .before .before .before .before .before .before .args in
     let send-ready = early .before .before .before .before .before .before .before .before .before .before .before .send-ready in
     let if1 = early .before .before .before .before .before .before .before .before .before .before .if1 in
@@ -139,8 +147,8 @@ returns-7 c =
     let mode-takes = early .before .before .before .before .mode-takes in
     let if3 = early .before .before .before .if3 in
     let raw-id = early .before .before .raw-id in
-    let id = c .before .before .before .before .before .before .before .before .before .before .before .id in
-    let if4 = c .before .before .before .before .before .before .before .before .if4 in
+    let id = past .before .before .before .id in
+    let if4 = past .if4 in
     let if5 = c .before .before .before .before .before .before .if5 in
     let stored = c .before .before .before .before .stored in
     send-as (send-put (a .m) (a .d) (lends [] (now (a .send)) []) (said (send-ready .ensures) (if1 .left)) _ (format-of .ensures) (said (is-format .ensures) (if2 .left))

@@ -43,9 +43,10 @@ answer-requires-2 c κs = search needs
 
 returns-2 : tie.Need-returns-2
 returns-2 c =
-    let a = c .before .before .before .before .before .before .before .before .before .before .before .before .args in
-    let send-ready = c .before .before .before .before .before .before .before .before .before .send-ready in
-    let if1 = c .before .before .before .before .before .before .before .before .if1 in
+    let past = c .before .before .before .before .before .before .before .before in
+    let a = past .before .before .before .before .args in
+    let send-ready = past .before .send-ready in
+    let if1 = past .if1 in
     let format-of = c .before .before .before .before .before .before .format-of in
     let read-message = c .before .before .before .before .before .read-message in
     let enum-told = c .before .before .before .enum-told in
@@ -61,11 +62,12 @@ same-length c = search needs
 
 returns-3 : tie.Need-returns-3
 returns-3 c =
-    let a = c .before .before .before .before .before .before .before .before .before .before .before .before .before .before .before .args in
-    let send-ready = c .before .before .before .before .before .before .before .before .before .before .before .before .send-ready in
-    let if1 = c .before .before .before .before .before .before .before .before .before .before .before .if1 in
-    let format-of = c .before .before .before .before .before .before .before .before .before .format-of in
-    let read-message = c .before .before .before .before .before .before .before .before .read-message in
+    let past = c .before .before .before .before .before .before .before .before in
+    let a = past .before .before .before .before .before .before .before .args in
+    let send-ready = past .before .before .before .before .send-ready in
+    let if1 = past .before .before .before .if1 in
+    let format-of = past .before .format-of in
+    let read-message = past .read-message in
     let reading = c .before .before .before .before .before .before .reading in
     send-as (text-put (now (a .text)) (a .d) (lends [] (now (a .send)) []) (said (send-ready .ensures) (if1 .left)) _ (format-of .ensures) _ (read-message .ensures) _ _ (reading .given .1))
     (c .before .before .put-message .ensures)
