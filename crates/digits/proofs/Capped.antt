@@ -1,11 +1,11 @@
 -- A capped number answers a test as the number itself does.
-use Prim.Native.Nat.{ℕ, _+_, _*_, _^_, _≤_, _<_}
+use Prim.Native.Nat.{ℕ, _^_, _≤_, _<_}
 use mathlib.Core.Path.{_≡_, sym, ap, _∙_}
 use mathlib.Core.Logic.{by-cases}
 use native.Mathlib.Decide.{decLt}
 use native.Mathlib.Omega.{arith}
-use borrow.Author.Tests.{le-leb, lt-leb, lt-ltb, le-ltb, ne-eqb}
-use lib.Dec.{ltb, leb, eqb}
+use borrow.Author.Tests.{lt-ltb, le-ltb}
+use lib.Dec.{ltb}
 use Rattle.digits.specs.Reading.{capped}
 
 -- what 2 ^ 32 and each larger number have in common, a number and the number capped have in common
@@ -22,19 +22,3 @@ capped-ltb v k l = capped-cong (λ x. ltb x k) v (λ h. le-ltb (2 ^ 32) k l ∙ 
 -- the test k < v
 pub ltb-capped : (k v : ℕ) → k < 2 ^ 32 → ltb k (capped v) ≡ ltb k v
 ltb-capped k v l = capped-cong (λ x. ltb k x) v (λ h. lt-ltb k (2 ^ 32) l ∙ sym (lt-ltb k v (omega arith)))
-
--- the test v ≤ k
-pub capped-leb : (v k : ℕ) → k < 2 ^ 32 → leb (capped v) k ≡ leb v k
-capped-leb v k l = capped-cong (λ x. leb x k) v (λ h. lt-leb (2 ^ 32) k l ∙ sym (lt-leb v k (omega arith)))
-
--- the test k ≤ v
-pub leb-capped : (k v : ℕ) → k ≤ 2 ^ 32 → leb k (capped v) ≡ leb k v
-leb-capped k v l = capped-cong (λ x. leb k x) v (λ h. le-leb k (2 ^ 32) l ∙ sym (le-leb k v (omega arith)))
-
--- the test v = k
-pub capped-eqb : (v k : ℕ) → k < 2 ^ 32 → eqb (capped v) k ≡ eqb v k
-capped-eqb v k l = capped-cong (λ x. eqb x k) v (λ h. ne-eqb (2 ^ 32) k (λ e. omega arith) ∙ sym (ne-eqb v k (λ e. omega arith)))
-
--- one digit more
-pub capped-digit : (v d : ℕ) → capped (capped v * 16 + d) ≡ capped (v * 16 + d)
-capped-digit v d = omega arith

@@ -54,10 +54,6 @@ decimal-length-one n h = ap length (decimal-small n h)
 pub decimal-length-two : (n : ℕ) → n < 100 → length (decimal n) ≤ 2
 decimal-length-two n h = decimal-le 1 n h
 
--- every number has a digit
-pub decimal-length-pos : (n : ℕ) → 1 ≤ length (decimal n)
-decimal-length-pos n = by-cases (decLt n 10) (λ l. omega (arith, decimal-length-one n l)) (λ l. omega (arith, large-length 19 n (omega arith)))
-
 -- a number from ten on has one digit more than its tenth
 pub decimal-length-suc : (n : ℕ) → 10 ≤ n → n < 2 ^ 32 → length (decimal n) ≡ length (decimal (n / 10)) + 1
 decimal-length-suc n l h = ap length (decimal-large n l h) ∙ length-append (decimal (n / 10)) ((48 + n % 10) ∷ [])

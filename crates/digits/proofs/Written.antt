@@ -5,7 +5,7 @@ use mathlib.Core.List.{List, [], _∷_, _++_}
 use native.Mathlib.Omega.{arith}
 use native.Mathlib.Nat.{add-zero, zero-add}
 use lib.ListN.{length, drop, set, length-append}
-use lib.Seq.{sets, sets-eq, length-sets}
+use lib.Seq.{sets, sets-eq}
 use Rattle.digits.specs.Written.{Put}
 
 -- a text written in two parts
@@ -25,10 +25,6 @@ then {o} {m} {n} {xs} {ys} {a} {p} {q} s t = record {
 -- one byte stored
 pub one : (o : List ℕ) (a b : ℕ) → Put o a (b ∷ []) (set o a b) (a + 1)
 one o a b = record { bytes = refl; place = refl }
-
--- a writer keeps the buffer's length
-pub put-length : {o m xs : List ℕ} {a p : ℕ} → Put o a xs m p → length m ≡ length o
-put-length {o} {m} {xs} {a} {p} s = ap length (s .bytes) ∙ length-sets o a xs
 
 -- a line written from the front on: the line, then what was there
 pub printed : {o m xs : List ℕ} {p : ℕ} → Put o 0 xs m p → length xs ≤ length o → (m ≡ xs ++ drop (length xs) o) × (p ≡ length xs)

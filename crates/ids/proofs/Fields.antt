@@ -3,18 +3,17 @@ use mathlib.Core.Path.{_≡_, refl, ap, ap₂, _∙_}
 use mathlib.Core.List.{List, [], _∷_}
 use mathlib.Core.Bool.{Bool, true, false, not, _&&_, _||_}
 use Prim.Native.Nat.{ℕ, zero, suc, _+_, _-_, _/_, _%_, _^_, _≤_, _<_, zero-le, min}
-use native.Mathlib.Nat.{min-zero, zero-div, mod-one, le-refl, le-trans}
+use native.Mathlib.Nat.{min-zero, zero-div, mod-one, le-refl}
 use native.Mathlib.Omega.{arith}
 use lib.Dec.{leb, eqb}
 use lib.ListN.{getD}
-use lib.Pow.{pow-mono}
 use lib.Bits.{bitAnd, bitXor, differ, and-mask}
 use lib.Count.{ones, onesIn}
 use borrow.Author.Tests.{leb-true, ne-eqb}
 use Rattle.common.specs.Choice.{pick}
 use Rattle.common.proofs.Bools.{and-left, and-right}
-use Rattle.ids.specs.Ids.{bit, isFormat, idBits, idLow}
-use Rattle.ids.specs.Filters.{isFilter, filterLow, free, fieldMeets, freeBits, letThrough}
+use Rattle.ids.specs.Ids.{bit, idBits, idLow}
+use Rattle.ids.specs.Filters.{isFilter, filterLow, free, fieldMeets, freeBits}
 use Rattle.ids.specs.declared.Filter.{Filter}
 use Rattle.ids.proofs.Bits.{Bit, off, on, is-bit, bit-is, bit-and, bit-xor, bit-shr, bit-ones, zero-suc, ones-suc}
 
@@ -171,10 +170,3 @@ free-le q low (suc w) = omega (arith, free-le q low w, pick-le (free q (low + w)
 -- two to the power of the number of an identifier's free bits fits in 32 bits
 pub free-small : (q : Filter) (format n low w : ℕ) → n ≡ freeBits q low w → w ≡ idBits format → n < 32
 free-small q format n low w en ew = omega (arith, free-le q low w, bits-le format)
-
--- no filter lets more identifiers through than extended frames have
-pub let-through-le : (align : ℕ) (q : Filter) (format : ℕ) → letThrough align q format ≤ 536870912
-unfolding letThrough
-let-through-le align q format =
-    pick-le (isFilter align (q .active) && isFormat format) {m = 2 ^ 29}
-    (λ e. pow-mono (le-trans (free-le q (filterLow format align) (idBits format)) (bits-le format))) zero-le

@@ -12,10 +12,10 @@ use Rattle.common.specs.Rings.{slotOf, withOneMore, withoutOldest}
 use Rattle.common.specs.Slots.{slot, store}
 use Rattle.common.specs.declared.Ring.{Ring}
 use Rattle.common.proofs.RingFacts.{RingFacts}
-use Rattle.records.specs.Events.{codeOf, goodEvent, eventBytes, isEvent}
+use Rattle.records.specs.Events.{stamped, codeOf, goodEvent, eventBytes, isEvent}
 use Rattle.records.specs.declared.Event.{Event}
 use Rattle.records.proofs.EventRoundTrip.{event-back, event-bytes-length, event-good-is}
-use Rattle.queue.specs.Queue.{queueLimit, eventSize, stamped, oneMore}
+use Rattle.queue.specs.Queue.{queueLimit, eventSize, oneMore}
 use Rattle.promises.specs.Typed.{Word}
 use Rattle.promises.specs.Runs.{held}
 use Rattle.promises.specs.Promised.{Every, IsEvent}

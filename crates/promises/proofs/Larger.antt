@@ -11,8 +11,8 @@ use Rattle.common.specs.Choice.{pick}
 use Rattle.common.specs.Sublist.{Sublist, none, keep, skip}
 use Rattle.common.specs.Slots.{ring}
 use Rattle.common.proofs.Sublists.{sublist-append}
-use Rattle.records.specs.Events.{eventBytes}
-use Rattle.queue.specs.Queue.{stamped, filtered}
+use Rattle.records.specs.Events.{stamped, eventBytes}
+use Rattle.queue.specs.Queue.{filtered}
 use Rattle.recorder.specs.Outcomes.{Lent}
 use Rattle.recorder.specs.Receiving.{opened}
 use Rattle.recorder.specs.declared.Device.{Device}

@@ -9,9 +9,8 @@ use lib.ListN.{length, getD, drop, length-append, length-drop}
 use lib.Dec.{ltb, eqb}
 use borrow.Author.Tests.{ltb-true, lt-ltb, le-ltb, eqb-false}
 use Rattle.common.specs.Choice.{pick}
-use Rattle.records.specs.Events.{eventBytes}
+use Rattle.records.specs.Events.{stamped, eventBytes}
 use Rattle.records.specs.declared.Event.{Event}
-use Rattle.queue.specs.Queue.{stamped}
 use Rattle.promises.specs.Runs.{Entry, entry, Log, logged}
 use Rattle.promises.specs.Promised.{entries}
 use Rattle.promises.specs.Meanings.{Meaning, arrives, reads, rests}

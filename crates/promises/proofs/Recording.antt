@@ -11,8 +11,8 @@ use Rattle.common.specs.Choice.{pick}
 use Rattle.common.specs.Numbers.{among}
 use Rattle.common.specs.Slots.{ring}
 use Rattle.common.proofs.Choices.{pick-is}
-use Rattle.records.specs.Events.{eventBytes}
-use Rattle.queue.specs.Queue.{queueFits, stamped}
+use Rattle.records.specs.Events.{stamped, eventBytes}
+use Rattle.queue.specs.Queue.{queueFits}
 use Rattle.queue.proofs.Laws.{ring-of}
 use Rattle.outbox.specs.Outbox.{sendFits}
 use Rattle.recorder.specs.State.{good, fresh, noDevice}

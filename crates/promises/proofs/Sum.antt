@@ -8,10 +8,9 @@ use native.Mathlib.Omega.{arith}
 use lib.ListN.{length}
 use lib.Dec.{ltb}
 use Rattle.common.specs.Choice.{pick}
-use Rattle.records.specs.Events.{eventBytes}
+use Rattle.records.specs.Events.{stamped, eventBytes}
 use Rattle.records.specs.declared.Event.{Event}
 use Rattle.records.proofs.EventRoundTrip.{lost-back}
-use Rattle.queue.specs.Queue.{stamped}
 use Rattle.recorder.specs.Outcomes.{Lent}
 use Rattle.recorder.specs.Receiving.{opened}
 use Rattle.recorder.specs.declared.Settings.{Settings}
