@@ -1,7 +1,7 @@
 // One message text, sent and taken again.
 use recorder::Device;
-use recorder::Settings;
 use recorder::register;
+use settings::Settings;
 use show::Line;
 
 // The line of a text, the bytes used, and the device with its send buffer emptied.

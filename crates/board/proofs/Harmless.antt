@@ -1,4 +1,4 @@
--- A refused call (a number from 1 to 14) changes no byte of the state, no lent byte and no place for a value.
+-- A refused call (a number from 1 to 99) changes no byte of the state, no lent byte and no place for a value.
 use mathlib.Core.Path.{_≡_, refl}
 use mathlib.Core.Bool.{true}
 use mathlib.Core.List.{List}
@@ -6,10 +6,12 @@ use Prim.Native.Nat.{ℕ}
 use lib.Dec.{eqb}
 use lib.ListN.{length}
 use Rattle.common.proofs.Choices.{pick-is}
-use Rattle.recorder.specs.Outcomes.{Lent, Outcome, isRefusal}
+use Rattle.common.specs.Refusals.{isRefusal}
+use Rattle.settings.specs.declared.Settings.{Settings}
+use Rattle.recorder.specs.Outcomes.{Lent, Outcome}
 use Rattle.recorder.specs.Receiving.{opened}
-use Rattle.recorder.specs.declared.Settings.{Settings}
-use Rattle.promises.specs.Calls.{Call, step}
+use Rattle.model.specs.Box.{Call}
+use Rattle.promises.specs.Calls.{outcome}
 use Rattle.promises.proofs.Harmless as Calls
 use Rattle.board.specs.Board.{stateSize, deviceIn, isState, on, openedOn, Unchanged}
 
@@ -21,10 +23,10 @@ unchanged : (o : Outcome) (s : List ℕ) (l : Lent) → Keeps l o → isRefusal 
 unchanged o s l k h = record { state-kept = rw h; lent-kept = k h; place-kept = λ old new. rw h }
 
 -- every call but opening, on any bytes as its state
-pub harmless : (x : Call) (s : List ℕ) (l : Lent) → isRefusal (on (step x) s l .number) ≡ true → Unchanged (on (step x) s l) s l
+pub harmless : (x : Call) (s : List ℕ) (l : Lent) → isRefusal (on (outcome x) s l .number) ≡ true → Unchanged (on (outcome x) s l) s l
 unfolding on
 harmless x s l h =
-    unchanged (on (step x) s l) s l
+    unchanged (on (outcome x) s l) s l
     (pick-is (Keeps l) (isState s) (λ e. Calls.harmless x (deviceIn s) l .bytes-kept) (λ e f. refl)) h
 
 -- opening, over any bytes

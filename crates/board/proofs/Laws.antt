@@ -13,13 +13,13 @@ use Rattle.common.specs.Choice.{pick}
 use Rattle.common.specs.Numbers.{bytesOf, numberOf}
 use Rattle.common.proofs.Bools.{and-left}
 use Rattle.common.proofs.Lists.{reads, reads-slice, reads-all}
+use Rattle.common.specs.Refusals.{isRefusal}
 use Rattle.digits.proofs.Written.{sets-append}
-use Rattle.recorder.specs.Outcomes.{isRefusal}
-use Rattle.board.specs.Board.{front, rest, numbers, words, stateBytes, word, isState, left}
+use Rattle.settings.specs.declared.Shared.{Shared}
 use Rattle.queue.specs.declared.Receive.{Receive}
 use Rattle.outbox.specs.declared.Send.{Send}
-use Rattle.recorder.specs.declared.Shared.{Shared}
 use Rattle.recorder.specs.declared.Device.{Device}
+use Rattle.board.specs.Board.{front, rest, numbers, words, stateBytes, word, isState, left}
 
 -- a number read byte by byte
 pub word-read : (s : List ℕ) (k a n : ℕ) → a ≡ 4 * k → 4 * k + 4 ≤ length s → n ≡ numberOf (getD s a 0 ∷ getD s (a + 1) 0 ∷ getD s (a + 2) 0 ∷ getD s (a + 3) 0 ∷ []) → n ≡ word s k

@@ -12,13 +12,14 @@ use Rattle.ids.specs.EventMask.{maskLets}
 use Rattle.records.specs.Events.{codeOf, isEvent}
 use Rattle.records.specs.declared.Event.{Event}
 use Rattle.records.specs.declared.Message.{Message}
+use Rattle.records.specs.Raised.{filtered, eventOf, frameRefusal}
 use Rattle.event_text.specs.Lines.{eventRoom}
-use Rattle.queue.specs.Queue.{usable, filtered, Raising, queued, unfiltered, raising, slotAt, reading}
+use Rattle.queue.specs.Queue.{usable, Raising, queued, unfiltered, raising, slotAt, reading}
 use Rattle.queue.specs.declared.Receive.{Receive}
 use Rattle.queue.specs.declared.ReadOut.{ReadOut}
 use Rattle.recorder.specs.State.{withReceive}
-use Rattle.recorder.specs.Outcomes.{Lent, Outcome, queueReady, eventOf, answerOf, recordOf}
-use Rattle.recorder.specs.Receiving.{frameRefusal, raised, recordRead, textRead}
+use Rattle.recorder.specs.Outcomes.{Lent, Outcome, queueReady, answerOf, recordOf}
+use Rattle.recorder.specs.Receiving.{raised, recordRead, textRead}
 use Rattle.recorder.specs.declared.Device.{Device}
 use Rattle.recorder.specs.declared.Answer.{Answer}
 use Rattle.recorder.specs.declared.Record.{Record}
@@ -56,7 +57,7 @@ module _ (d : Device) (l : Lent) where
       meets : (e : Event) → Moved (raising (d .shared .mode) (d .shared .align) (d .receive) e (l .queue))
       meets e =
           pick-is Moved (usable (d .receive) (l .queue))
-          (λ a. pick-is Moved (filtered (d .shared .mode) (d .shared .align) (d .receive) e) (λ b. refl)
+          (λ a. pick-is Moved (filtered (d .shared .mode) (d .shared .align) (d .receive .filter) e) (λ b. refl)
           (λ b. pick-is Moved (maskLets (d .receive .events) (codeOf (e .kind)))
           (λ f. pick-is Moved (ltb (d .receive .ring .count) (d .receive .ring .capacity)) (λ x. refl) (λ x. refl)) (λ f. refl)))
           (λ a. refl)

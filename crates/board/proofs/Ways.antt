@@ -9,15 +9,17 @@ use lib.Dec.{ltb}
 use borrow.Author.Tests.{eq-eqb, ne-eqb}
 use Rattle.common.specs.Choice.{pick}
 use Rattle.common.specs.Rings.{slotOf}
+use Rattle.common.specs.Refusals.{isRefusal}
+use Rattle.records.specs.Events.{eventSize}
 use Rattle.digits.specs.declared.Printed.{Printed}
-use Rattle.queue.specs.Queue.{eventSize, usable, queueFits, lookNumber, lookedAt}
+use Rattle.settings.specs.declared.Settings.{Settings}
+use Rattle.queue.specs.Queue.{usable, queueFits, lookNumber, lookedAt}
 use Rattle.outbox.specs.Outbox.{sendFits}
 use Rattle.recorder.specs.State.{good, fresh, noDevice}
-use Rattle.recorder.specs.Outcomes.{Lent, Outcome, lends, refuses, answerOf, recordOf, throughOf, queueReady, noted, QueueMet, SendMet, OutMet, TakeMet, PrintMet, isRefusal}
+use Rattle.recorder.specs.Outcomes.{Lent, Outcome, lends, refuses, answerOf, recordOf, throughOf, queueReady, noted, QueueMet, SendMet, OutMet, TakeMet, PrintMet}
 use Rattle.recorder.specs.Receiving.{opened, lookSaid}
 use Rattle.recorder.specs.Sending.{aborted}
 use Rattle.recorder.specs.declared.Device.{Device}
-use Rattle.recorder.specs.declared.Settings.{Settings}
 use Rattle.recorder.specs.declared.Answer.{Answer}
 use Rattle.recorder.specs.declared.Record.{Record}
 use Rattle.recorder.specs.declared.Taken.{Taken}

@@ -8,16 +8,17 @@ use lib.Seq.{slice}
 use lib.Dec.{leb, eqb}
 use Rattle.common.specs.Choice.{pick}
 use Rattle.common.specs.Numbers.{bytesOf, numberOf}
+use Rattle.common.specs.Refusals.{isRefusal}
 use Rattle.records.specs.declared.Message.{Message}
+use Rattle.settings.specs.declared.Shared.{Shared}
+use Rattle.settings.specs.declared.Settings.{Settings}
 use Rattle.queue.specs.Queue.{moved, lookedAt}
 use Rattle.queue.specs.declared.Receive.{Receive}
 use Rattle.outbox.specs.declared.Send.{Send}
 use Rattle.recorder.specs.State.{noDevice, withReceive}
-use Rattle.recorder.specs.Outcomes.{Lent, Outcome, lends, refuses, isRefusal}
+use Rattle.recorder.specs.Outcomes.{Lent, Outcome, lends, refuses}
 use Rattle.recorder.specs.Receiving.{opened, lookSaid}
-use Rattle.recorder.specs.declared.Shared.{Shared}
 use Rattle.recorder.specs.declared.Device.{Device}
-use Rattle.recorder.specs.declared.Settings.{Settings}
 
 -- the bytes of a state: twenty numbers of four bytes, then the register's eight data bytes
 abbrev pub stateSize : ℕ

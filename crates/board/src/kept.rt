@@ -5,8 +5,8 @@ use ids::Header;
 use outbox::Send;
 use queue::Receive;
 use recorder::Device;
-use recorder::Shared;
 use records::Message;
+use settings::Shared;
 ghost use mathlib.Core.Path.{_≡_};
 ghost use mathlib.Core.Bool.{true};
 ghost use mathlib.Core.List.{_∷_, [], _++_};
@@ -14,7 +14,7 @@ ghost use Prim.Native.Nat.{_+_, _*_, _≤_};
 ghost use lib.ListN.{length};
 ghost use lib.Seq.{sets};
 ghost use Rattle.common.specs.Numbers.{bytesOf};
-ghost use Rattle.recorder.specs.Outcomes.{isRefusal};
+ghost use Rattle.common.specs.Refusals.{isRefusal};
 ghost use Rattle.board.specs.Board.{stateBytes, word, deviceIn, isState, left, message, words, front, rest, queueMoved, Left};
 
 // The bytes of a state.
@@ -218,14 +218,14 @@ pub fn write_state(state: &mut [u8], d: Device)
     write_rest(state, send);
 }
 
-// The refusals are the numbers 1 to 14.
+// The refusals are the numbers 1 to 99.
 pub fn is_refusal(number: u32) -> bool
     ensures { λ ok. ⌜ ok ≡ isRefusal number ⌝ }
 {
     if number < 1 {
         return false;
     }
-    number <= 14
+    number <= 99
 }
 
 // Writes the next device into the state, unless the call was refused; answers the call's number.

@@ -1,6 +1,6 @@
 // Opening a device into a state.
 use crate::kept;
-use recorder::Settings;
+use settings::Settings;
 ghost use mathlib.Core.List.{[]};
 ghost use Rattle.recorder.specs.Outcomes.{lends};
 ghost use Rattle.board.specs.Board.{openedOn, settings, Called};

@@ -1,7 +1,7 @@
 -- Identifiers under an Align (01, "Identifiers and filter").
 use Prim.Native.Nat.{ℕ, _*_, _/_, _%_, _^_}
-use mathlib.Core.Bool.{Bool, _&&_, _||_}
-use mathlib.Core.List.{List, [], _∷_}
+use mathlib.Core.Bool.{Bool, true, false, _&&_, _||_}
+use mathlib.Core.List.{[], _∷_}
 use lib.ListN.{getD}
 use lib.Dec.{ltb, leb, eqb}
 use Rattle.common.specs.Choice.{pick}
@@ -35,3 +35,13 @@ rawOf align format shown =
     pick
     (leb align 3 && isFormat format && eqb (shown % 2 ^ idLow format align) 0 && ltb (shown / 2 ^ idLow format align) (2 ^ idBits format))
     (Good (shown / 2 ^ idLow format align)) Bad
+
+-- a bad identifier
+abbrev pub isBad : Id → Bool
+isBad (Good raw) = false
+isBad Bad = true
+
+-- a good identifier's number
+abbrev pub idNumber : Id → ℕ
+idNumber (Good raw) = raw
+idNumber Bad = 0

@@ -2,18 +2,18 @@
 use Prim.Native.Nat.{ℕ, _+_, _≤_}
 use mathlib.Core.Path.{_≡_, refl}
 use mathlib.Core.List.{List, [], _∷_}
-use mathlib.Core.Bool.{Bool, true, false, not, _||_}
+use mathlib.Core.Bool.{Bool, true, false, not}
 use borrow.Author.Tests.{ltb-false, not-false}
-use lib.Dec.{ltb, eqb}
+use lib.Dec.{ltb}
 use lib.ListN.{length, getD, drop}
 use Rattle.common.specs.Numbers.{among}
-use Rattle.ids.specs.Ids.{rawOf}
+use Rattle.common.proofs.Choices.{pick-is}
+use Rattle.ids.specs.Ids.{rawOf, isBad}
 use Rattle.ids.specs.Frames.{carried}
 use Rattle.message_text.specs.Numbers.{numbers, beforeEnd, usedOf}
-use Rattle.message_text.specs.Reading.{isBad, headerOf, allBytes, dataOf, refused, judgedData, judged, readMessage}
+use Rattle.message_text.specs.Reading.{headerOf, allBytes, dataOf, refused, judgedData, judged, readMessage}
 use Rattle.message_text.specs.declared.Said.{Said}
 use Rattle.message_text.specs.declared.Answer.the-variants.{Taken}
-use Rattle.common.proofs.Choices.{pick-is}
 
 -- the numbers of a text with an end that is refused
 abbrev pub isRefusal : ℕ → Bool

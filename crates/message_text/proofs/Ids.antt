@@ -9,12 +9,11 @@ use lib.Dec.{leb, ltb, eqb}
 use lib.Pow.{pow-mono, pow-add, shr-mono, shl-shr}
 use Rattle.common.specs.Choice.{pick}
 use Rattle.common.proofs.Bools.{apart}
-use Rattle.digits.specs.Reading.{capped}
-use Rattle.digits.proofs.Capped.{capped-cong}
-use Rattle.ids.specs.Ids.{isFormat, idBits, idLow, rawOf}
+use Rattle.ids.specs.Ids.{isFormat, idBits, idLow, rawOf, isBad, idNumber}
 use Rattle.ids.specs.declared.Id.the-variants.{Good, Bad}
 use Rattle.ids.proofs.Fields.{id-in-word}
-use Rattle.message_text.specs.Reading.{isBad, idNumber}
+use Rattle.digits.specs.Reading.{capped}
+use Rattle.digits.proofs.Capped.{capped-cong}
 
 -- a number that does not fit in 32 bits is a bad identifier
 pub raw-large : (align f v : ℕ) → 2 ^ 32 ≤ v → rawOf align f v ≡ Bad

@@ -7,19 +7,19 @@ use native.Mathlib.Omega.{arith}
 use borrow.Author.Tests.{lt-ltb, le-ltb, ltb-true, ltb-false, not-false}
 use lib.Dec.{ltb}
 use lib.ListN.{length, replicate, length-map}
-use Rattle.digits.specs.Reading.{capped}
-use Rattle.digits.proofs.Capped.{ltb-capped}
-use Rattle.ids.specs.Ids.{rawOf}
+use Rattle.common.proofs.Choices.{by-test, pick-same}
+use Rattle.ids.specs.Ids.{rawOf, isBad}
 use Rattle.ids.specs.Frames.{carried}
 use Rattle.ids.specs.declared.Header.{Header}
 use Rattle.ids.proofs.Frames.{carried-le}
-use Rattle.message_text.specs.Reading.{isBad, headerOf, allBytes, judgedData, judged, readMessage}
+use Rattle.digits.specs.Reading.{capped}
+use Rattle.digits.proofs.Capped.{ltb-capped}
+use Rattle.message_text.specs.Reading.{headerOf, allBytes, judgedData, judged, readMessage}
 use Rattle.message_text.specs.Numbers.{numbers, beforeEnd, usedOf}
 use Rattle.message_text.specs.Scan.{keptFrom, keptOf}
 use Rattle.message_text.specs.declared.Kept.{Kept}
 use Rattle.message_text.specs.declared.Said.{Said}
 use Rattle.message_text.specs.declared.Answer.the-variants.{Taken}
-use Rattle.common.proofs.Choices.{by-test, pick-same}
 use Rattle.message_text.proofs.Ids.{raw-capped}
 use Rattle.message_text.proofs.Data.{padded, padded-one, padded-bytes, padded-take}
 

@@ -1,5 +1,5 @@
 -- A message that a text says is a good message, and a refusal stands beside zeros.
-use Prim.Native.Nat.{ℕ, zero, suc, _-_, _^_}
+use Prim.Native.Nat.{ℕ, _-_, _^_}
 use mathlib.Core.Path.{_≡_, refl}
 use mathlib.Core.List.{List}
 use mathlib.Core.Bool.{true}
@@ -7,15 +7,15 @@ use native.Mathlib.Omega.{arith}
 use borrow.Author.Tests.{lt-ltb, le-leb}
 use lib.ListN.{length, getD, take, drop, replicate, length-append, length-drop, length-replicate}
 use lib.Seq.{drop-at, length-take-le}
-use Rattle.common.specs.Numbers.{Bytes, allZero}
+use Rattle.common.specs.Numbers.{Bytes}
 use Rattle.common.proofs.Numbers.{zeros-zero, zeros-bytes, bytes-append, bytes-take}
-use Rattle.ids.specs.Ids.{idBits, rawOf}
+use Rattle.ids.specs.Ids.{idBits, rawOf, idNumber}
 use Rattle.ids.specs.Frames.{headerRefusal, carried}
 use Rattle.ids.specs.declared.Header.{Header}
 use Rattle.ids.proofs.Frames.{carried-le}
 use Rattle.records.specs.Messages.{goodMessage}
 use Rattle.message_text.specs.Numbers.{numbers}
-use Rattle.message_text.specs.Reading.{idNumber, headerOf, dataOf, readMessage}
+use Rattle.message_text.specs.Reading.{headerOf, dataOf, readMessage}
 use Rattle.message_text.specs.declared.Answer.{Answer}
 use Rattle.message_text.specs.declared.Answer.the-variants.{Taken, Refused}
 use Rattle.message_text.proofs.Ids.{raw-good}

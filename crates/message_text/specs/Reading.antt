@@ -1,28 +1,17 @@
 -- What a message text says: a message or a refusal, with the bytes used (01, "The two texts" and "Refusal numbers").
 use Prim.Native.Nat.{ℕ, _+_, _-_}
 use mathlib.Core.List.{List, [], _∷_, _++_}
-use mathlib.Core.Bool.{Bool, true, false, not, _&&_}
+use mathlib.Core.Bool.{Bool, true, not, _&&_}
 use lib.ListN.{length, getD, take, drop, replicate}
 use lib.Dec.{ltb}
 use Rattle.common.specs.Choice.{pick}
-use Rattle.ids.specs.Ids.{rawOf}
+use Rattle.ids.specs.Ids.{rawOf, isBad, idNumber}
 use Rattle.ids.specs.Frames.{carried}
 use Rattle.ids.specs.declared.Header.{Header}
-use Rattle.ids.specs.declared.Id.{Id}
-use Rattle.ids.specs.declared.Id.the-variants.{Good, Bad}
 use Rattle.message_text.specs.Numbers.{numbers, beforeEnd, usedOf}
 use Rattle.message_text.specs.declared.Said.{Said}
 use Rattle.message_text.specs.declared.Answer.{Answer}
 use Rattle.message_text.specs.declared.Answer.the-variants.{Taken, Refused}
-
-abbrev pub isBad : Id → Bool
-isBad (Good raw) = false
-isBad Bad = true
-
--- a good identifier's number
-abbrev pub idNumber : Id → ℕ
-idNumber (Good raw) = raw
-idNumber Bad = 0
 
 -- the fields id, rtr, dlc of a text's numbers: the identifier is aligned, the format is the channel's default
 abbrev pub headerOf : ℕ → ℕ → List ℕ → Header

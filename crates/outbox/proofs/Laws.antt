@@ -1,6 +1,5 @@
 -- What each way through the send buffer's functions shows.
 use mathlib.Core.Path.{_≡_, ap, _∙_}
-use mathlib.Core.Logic.{_⊎_, inl, inr, ⊎-elim}
 use mathlib.Core.Bool.{Bool, true, false, not, _&&_, _||_}
 use mathlib.Core.List.{List}
 use Prim.Native.Nat.{ℕ, _+_, _-_, _*_, _≤_, _<_}
@@ -10,11 +9,12 @@ use Rattle.common.specs.Slots.{store}
 use Rattle.common.specs.Rings.{goodRing, slotOf, withOneMore}
 use Rattle.common.proofs.Bools.{and-left, and-right, said, denied}
 use Rattle.common.proofs.RingFacts.{RingFacts, good-ring, slot-part}
-use Rattle.records.specs.Messages.{goodMessage, messageBytes, messageIn, isMessage, judgeMessage}
+use Rattle.records.specs.Messages.{goodMessage, messageBytes, messageIn, isMessage, judgeMessage, messageSize}
 use Rattle.records.proofs.RoundTrip.{good-is, message-as}
 use Rattle.records.specs.declared.Message.{Message}
 use Rattle.records.specs.declared.JudgedMessage.{JudgedMessage}
-use Rattle.outbox.specs.Outbox.{sendLimit, messageSize, goodTx, goodSend, sendFits, withRing, afterTake, Sending, sends, sending, SendMet, oldest, sent, taking}
+use Rattle.settings.specs.TxMode.{goodTx}
+use Rattle.outbox.specs.Outbox.{sendLimit, goodSend, sendFits, withRing, afterTake, Sending, sends, sending, SendMet, oldest, sent, taking}
 use Rattle.outbox.specs.declared.Send.{Send}
 use Rattle.outbox.specs.declared.Sent.{Sent}
 
@@ -31,21 +31,6 @@ ring-of s h =
 -- a table that passed the test is as long as the capacity needs
 pub fits-table : (s : Send) (n : ℕ) → sendFits s n ≡ true → messageSize * s .ring .capacity ≤ n
 fits-table s n h = leb-true (messageSize * s .ring .capacity) n h
-
--- ---- TxMode
-
--- one of the four keys of the code's match
-pub tx-good : (tx : ℕ) → (tx ≡ 1) ⊎ ((tx ≡ 3) ⊎ ((tx ≡ 5) ⊎ (tx ≡ 7))) → true ≡ goodTx tx
-unfolding goodTx
-tx-good tx = ⊎-elim (λ e. rw e) (⊎-elim (λ e. rw e) (⊎-elim (λ e. rw e) (λ e. rw e)))
-
--- none of them
-pub tx-bad : (tx : ℕ) → ((tx ≡ 1) ⊎ ((tx ≡ 3) ⊎ ((tx ≡ 5) ⊎ (tx ≡ 7))) → ⊥) → false ≡ goodTx tx
-unfolding goodTx
-tx-bad tx h =
-    let f = ne-eqb tx 5 (λ e. h (inr (inr (inl e)))) in
-    let g = ne-eqb tx 7 (λ e. h (inr (inr (inr e)))) in
-    simp (ne-eqb tx 1 (λ e. h (inl e)), ne-eqb tx 3 (λ e. h (inr (inl e))), f, g)
 
 -- a held register decides where the rest is good
 pub held-good : (s : Send) (g : Bool) → goodTx (s .tx) ≡ true → goodRing sendLimit (s .ring) ≡ true

@@ -9,23 +9,15 @@ use Rattle.common.specs.Choice.{pick}
 use Rattle.common.specs.Slots.{slot, store}
 use Rattle.common.specs.Rings.{goodRing, slotOf, withOneMore, withoutOldest, purged}
 use Rattle.common.specs.declared.Ring.{Ring}
-use Rattle.ids.specs.Ids.{bit}
-use Rattle.records.specs.Messages.{goodMessage, messageBytes, messageIn, isMessage, noMessage}
+use Rattle.records.specs.Messages.{messageSize, goodMessage, messageBytes, messageIn, isMessage, noMessage}
 use Rattle.records.specs.declared.Message.{Message}
+use Rattle.settings.specs.TxMode.{goodTx}
 use Rattle.outbox.specs.declared.Send.{Send}
 use Rattle.outbox.specs.declared.Sent.{Sent}
 
 -- send buffer 1 to 1,024 messages
 abbrev pub sendLimit : ℕ
 sendLimit = 1024
-
--- of 16 bytes
-abbrev pub messageSize : ℕ
-messageSize = 16
-
--- TxMode is 1, 3, 5 or 7
-unfoldable pub goodTx : ℕ → Bool
-goodTx tx = eqb tx 1 || eqb tx 3 || eqb tx 5 || eqb tx 7
 
 -- settings and numbers that a send channel can have: TxMode, a ring, and a held register that is a message
 unfoldable pub goodSend : Send → Bool
@@ -38,14 +30,6 @@ sendFits s n = leb (messageSize * s .ring .capacity) n
 -- a channel whose numbers are possible and whose table is long enough: else refusal 2
 abbrev pub usable : Send → List ℕ → Bool
 usable s t = goodSend s && sendFits s (length t)
-
--- a transmitted event is raised at take: TxMode bit 1 set, bit 2 not
-unfoldable pub raisesAtTake : ℕ → Bool
-raisesAtTake tx = eqb (bit tx 1) 1 && eqb (bit tx 2) 0
-
--- a transmitted event is raised at done: TxMode bits 1 and 2 set
-unfoldable pub raisesAtDone : ℕ → Bool
-raisesAtDone tx = eqb (bit tx 1) 1 && eqb (bit tx 2) 1
 
 -- the channel with another ring
 abbrev pub withRing : Send → Ring → Send

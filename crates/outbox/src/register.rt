@@ -8,27 +8,7 @@ use records::Message;
 ghost use mathlib.Core.Path.{_≡_};
 ghost use Prim.Native.Nat.{_≤_, _<_};
 ghost use Rattle.common.specs.Rings.{purged};
-ghost use Rattle.outbox.specs.Outbox.{raisesAtTake, raisesAtDone, afterTake, afterDone, afterAbort, taking};
-
-// A transmitted event is raised at take.
-pub fn raises_at_take(tx: u32) -> bool
-    ensures { λ yes. ⌜ yes ≡ raisesAtTake tx ⌝ }
-{
-    if (tx >> 1) % 2 != 1 {
-        return false;
-    }
-    (tx >> 2) % 2 == 0
-}
-
-// A transmitted event is raised at done.
-pub fn raises_at_done(tx: u32) -> bool
-    ensures { λ yes. ⌜ yes ≡ raisesAtDone tx ⌝ }
-{
-    if (tx >> 1) % 2 != 1 {
-        return false;
-    }
-    (tx >> 2) % 2 == 1
-}
+ghost use Rattle.outbox.specs.Outbox.{afterTake, afterDone, afterAbort, taking};
 
 // The oldest message moved to the register.
 fn after_take(s: Send, m: Message) -> Send

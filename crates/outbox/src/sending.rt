@@ -5,27 +5,18 @@ use common::Ring;
 use common::rings;
 use records::Message;
 ghost use mathlib.Core.Path.{_≡_};
-ghost use Rattle.outbox.specs.Outbox.{goodTx, goodSend, sendFits, withRing, sent, sending, SendMet};
+ghost use Rattle.outbox.specs.Outbox.{goodSend, sendFits, withRing, sent, sending, SendMet};
 
 // The bytes of a slot, and the most of them.
 pub const SLOT: usize = 16;
 
 const LIMIT: u32 = 1024;
 
-fn is_tx(tx: u32) -> bool
-    ensures { λ ok. ⌜ ok ≡ goodTx tx ⌝ }
-{
-    match tx {
-        1 | 3 | 5 | 7 => true,
-        _ => false,
-    }
-}
-
 // Settings and numbers that a send channel can have.
 pub fn is_send(s: Send) -> bool
     ensures { λ ok. ⌜ ok ≡ goodSend s ⌝ }
 {
-    if !is_tx(s.tx) {
+    if !settings::txmode::is_tx(s.tx) {
         return false;
     }
     let ring = s.ring;

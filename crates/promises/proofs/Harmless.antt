@@ -1,6 +1,6 @@
 -- Demand 1 over all calls at once, for any device and any lent bytes whatever.
 use mathlib.Core.Path.{_≡_, refl, sym, ap, _∙_}
-use mathlib.Core.Bool.{Bool, true, false, _&&_, _||_}
+use mathlib.Core.Bool.{Bool, true, false, not, _&&_, _||_}
 use mathlib.Core.List.{List, [], _∷_}
 use Prim.Native.Nat.{ℕ, _^_, _≤_}
 use lib.ListN.{length, replicate}
@@ -10,48 +10,58 @@ use Rattle.common.specs.Choice.{pick}
 use Rattle.common.specs.Numbers.{among}
 use Rattle.common.proofs.Among.{among-first, among-last}
 use Rattle.common.proofs.Choices.{pick-is}
-use Rattle.common.proofs.Bools.{apart}
-use Rattle.ids.specs.Ids.{isFormat, idBits, rawOf}
+use Rattle.common.proofs.Bools.{apart, denied}
+use Rattle.ids.specs.Ids.{isFormat, idBits, rawOf, isBad}
 use Rattle.ids.specs.Filters.{modeTakes}
-use Rattle.ids.specs.EventMask.{maskLets}
+use Rattle.ids.specs.EventMask.{maskLets, isMask}
 use Rattle.ids.specs.Frames.{headerRefusal}
 use Rattle.ids.specs.declared.Header.{Header}
 use Rattle.records.specs.declared.Message.{Message}
 use Rattle.records.specs.Events.{holdsFrame, codeOf, isEvent}
-use Rattle.records.specs.Messages.{isMessage, noMessage}
+use Rattle.records.specs.Messages.{messageSize, isMessage, noMessage}
 use Rattle.records.specs.declared.Event.{Event}
-use Rattle.queue.specs.Queue.{queueFits, slotAt, usable, filtered, Raising, raises, queued, unfiltered, raising, notRead, reading, lookNumber, looked}
+use Rattle.queue.specs.Queue.{queueFits, slotAt, usable, Raising, raises, queued, unfiltered, raising, notRead, reading, lookNumber, looked}
+use Rattle.records.specs.Raised.{filtered, eventOf, frameRefusal}
 use Rattle.queue.specs.declared.Receive.{Receive}
 use Rattle.queue.specs.declared.ReadOut.{ReadOut}
 use Rattle.outbox.specs.Outbox.{Sending, sending, taking}
 use Rattle.outbox.specs.Outbox as Outbox
 use Rattle.outbox.specs.declared.Sent.{Sent}
-use Rattle.message_text.specs.Reading.{isBad}
 use Rattle.message_text.specs.Printing.{messageRefusal, messageRecordRefusal}
+use Rattle.message_text.specs.Numbers.{usedOf}
 use Rattle.message_text.proofs.Cases.{read-is}
 use Rattle.event_text.specs.Lines.{eventRecordRefusal}
-use Rattle.recorder.specs.State.{goodShared, good, fresh, noDevice, formatOf, withShared, withReceive}
-use Rattle.recorder.specs.Outcomes.{Lent, Outcome, ends, refuses, queueReady, sendReady, bothReady, noted, notedIf, eventOf, met, withQueue, isRefusal}
-use Rattle.recorder.specs.Receiving.{opened, changed, filterSet, eventMaskSet, frameRefusal, raised, recordRead, textRead, lookSaid, through}
-use Rattle.recorder.specs.Sending.{put, sentMessage, sent, putSaid, textSent, taken, finished, aborted}
+use Rattle.recorder.specs.State.{good, fresh, noDevice, withShared, withReceive, withSend}
+use Rattle.settings.specs.Ranges.{goodShared, formatOf}
+use Rattle.settings.specs.TxMode.{raisesAtTake, raisesAtDone}
+use Rattle.settings.specs.Binary.{binaryRefusal, sentMessage}
+use Rattle.recorder.specs.Outcomes.{Lent, Outcome, ends, refuses, queueReady, sendReady, bothReady, noted, notedIf, met, withQueue, withTable}
+use Rattle.common.specs.Refusals.{isRefusal}
+use Rattle.recorder.specs.Receiving.{opened, changed, filterSet, eventMaskSet, raised, recordRead, textRead, lookSaid, through}
+use Rattle.recorder.specs.Sending.{put, sent, putSaid, textSent, taken, finished, aborted}
 use Rattle.recorder.specs.Printing.{linePrinted, messageRecordPrinted, eventRecordPrinted, messagePrinted}
 use Rattle.recorder.specs.declared.Device.{Device}
-use Rattle.recorder.specs.declared.Shared.{Shared}
-use Rattle.recorder.specs.declared.Settings.{Settings}
+use Rattle.settings.specs.declared.Shared.{Shared}
+use Rattle.settings.specs.declared.Settings.{Settings}
 use Rattle.recorder.proofs.Ready.{align-in}
-use Rattle.promises.specs.Calls.{Call, raise, readText, readRecord, look, setMode, setFormat, setFilter, setEventMask, send, sendText, take, done, abort}
-use Rattle.promises.specs.Calls.{printMessageRecord, printEventRecord, printMessage, identifiersThrough, step, listed, beside, Harmless}
+use Rattle.model.specs.Inbox.{readRecord, readText, look, setFilter, setEventMask, identifiersThrough}
+use Rattle.model.specs.Outbox.{send, sendText, take, done, abort}
+use Rattle.model.specs.Box.{raise, setMode, setFormat, printMessageRecord, printEventRecord, printMessage}
+use Rattle.model.specs.Box.{Call, onDevice, onReceive, onSend, onAlign}
+use Rattle.model.specs.Listed.{listedDevice, listedReceive, listedSend, listedPrint, listed, besideSend, beside}
+use Rattle.model.proofs.Numbers.{header-number, binary-number, Other, room-align, each-is}
+use Rattle.promises.specs.Calls.{receiveOutcome, outcome, Harmless, CallHarmless}
 
 -- a choice has what both its arms have
-pub both : {A : Type 0} (P : A → Type 0) (c : Bool) (x y : A) → P x → P y → P (pick c x y)
+both : {A : Type 0} (P : A → Type 0) (c : Bool) (x y : A) → P x → P y → P (pick c x y)
 both P c x y p q = pick-is P c (λ e. p) (λ e. q)
 
 module _ (ns : List ℕ) (d : Device) (l : Lent) where
   abbrev H : Outcome → Type 0
-  H o = Harmless ns (λ v. v ≡ 0) d l o
+  H o = Harmless ns (λ n. 0) d l o
 
   refused : (n : ℕ) → among n ns ≡ true → H (refuses n d l)
-  refused n h = record { is-listed = h; device-kept = λ e. refl; bytes-kept = λ e. refl; zero-bytes = λ e. refl; zero-value = λ e. refl }
+  refused n h = record { is-listed = h; device-kept = λ e. refl; bytes-kept = λ e. refl; zero-bytes = λ e. refl; value-is = λ e. refl }
 
   no-refusal : (o : Outcome) → among (o .number) ns ≡ true → isRefusal (o .number) ≡ false → H o
   no-refusal o h z = record {
@@ -59,7 +69,7 @@ module _ (ns : List ℕ) (d : Device) (l : Lent) where
     device-kept = λ e. absurd (apart (sym e ∙ z));
     bytes-kept = λ e. absurd (apart (sym e ∙ z));
     zero-bytes = λ e. absurd (apart (sym e ∙ z));
-    zero-value = λ e. absurd (apart (sym e ∙ z));
+    value-is = λ e. absurd (apart (sym e ∙ z));
   }
 
   -- success answers 0, whatever it leaves
@@ -73,30 +83,10 @@ module _ (ns : List ℕ) (d : Device) (l : Lent) where
   succeeds-noted true e v bs f m h = succeeds v bs _ _ h
   succeeds-noted false e v bs f m h = succeeds v bs f m h
 
--- a first refusal that is not 0 is one of a header's
-pub header-number : (P : ℕ → Type 0) (h : Header) → P 0 → P 13 → P 8 → P 9 → P 10 → P (headerRefusal h)
-unfolding headerRefusal
-header-number P h p0 p13 p8 p9 p10 =
-    both P (isFormat (h .format)) _ _
-    (both P (ltb (h .id) (2 ^ idBits (h .format))) _ _ (both P (leb (h .rtr) 1) _ _ (both P (leb (h .dlc) 15) _ _ p0 p10) p9) p8)
-    p13
-
--- a test of a number that is not 0
-abbrev pub Other : List ℕ → ℕ → Type 0
-Other ns n = eqb n 0 ≡ false → among n ns ≡ true
-
--- the two refusals that stand before a record's own: room, then the Align
-pub room-align : (ns : List ℕ) (align room need n : ℕ) → among 3 ns ≡ true → Other ns n → align ≤ 3 → Other ns (pick (ltb room need) 3 (pick (leb align 3) n 1))
-room-align ns align room need n three h a = both (Other ns) (ltb room need) _ _ (λ e. three) (rw (le-leb align 3 a) h)
-
 module _ (ns : List ℕ) (d : Device) (l : Lent) where
   -- a number that is 0 succeeds, any other is refused
   by-number : (n : ℕ) (o : Outcome) → Other ns n → (n ≡ 0 → H ns d l o) → H ns d l (pick (eqb n 0) o (refuses n d l))
   by-number n o h z = pick-is (H ns d l) (eqb n 0) (λ e. z (eqb-true n 0 e)) (λ e. refused ns d l n (h e))
-
--- the refusals of a text with an end
-pub text-among : (n : ℕ) → among n (7 ∷ 8 ∷ 9 ∷ 10 ∷ 11 ∷ 12 ∷ []) ≡ true → among n (7 ∷ 8 ∷ 9 ∷ 10 ∷ 11 ∷ 12 ∷ 5 ∷ 0 ∷ []) ≡ true
-text-among n h = among-first n (7 ∷ 8 ∷ 9 ∷ 10 ∷ 11 ∷ 12 ∷ []) (5 ∷ 0 ∷ []) h
 
 -- ---- what an event that is raised meets
 
@@ -110,7 +100,7 @@ raising-met : (mode align : ℕ) (r : Receive) (e : Event) (t : List ℕ) → Me
 unfolding raising unfiltered queued isRefusal
 raising-met mode align r e t =
     both (Met r t) (usable r t) _ _
-    (both (Met r t) (filtered mode align r e) _ _ (kept 101 refl)
+    (both (Met r t) (filtered mode align (r .filter) e) _ _ (kept 101 refl)
     (both (Met r t) (maskLets (r .events) (codeOf (e .kind))) _ _
     (both (Met r t) (ltb (r .ring .count) (r .ring .capacity)) _ _
     (record { number-in = refl; receive-kept = λ x. absurd (apart (sym x)); table-kept = λ x. absurd (apart (sym x)) })
@@ -127,8 +117,8 @@ module _ (d : Device) (l : Lent) where
   abbrev raiseNumbers : List ℕ
   raiseNumbers = 2 ∷ 13 ∷ 8 ∷ 9 ∷ 10 ∷ 100 ∷ 101 ∷ 102 ∷ 103 ∷ []
 
-  raise-fine : (code tick : ℕ) (m : Message) → H (listed (raise code tick m)) d l (raised code tick m d l)
-  unfolding raised listed
+  raise-fine : (code tick : ℕ) (m : Message) → H (listedDevice (raise code tick m)) d l (raised code tick m d l)
+  unfolding raised
   raise-fine code tick m =
       both (H raiseNumbers d l) (queueReady d l) _ _ (by-number raiseNumbers d l (frameRefusal code m) _ (frame-in code m) (λ z. arrives (eventOf code tick m))) (refused raiseNumbers d l 2 refl)
     where
@@ -146,7 +136,7 @@ module _ (d : Device) (l : Lent) where
             device-kept = λ x. ap (λ (r : Receive). withReceive d r) (g .receive-kept x);
             bytes-kept = λ x. ap (λ (t : List ℕ). withQueue l t) (g .table-kept x);
             zero-bytes = λ x. refl;
-            zero-value = λ x. refl;
+            value-is = λ x. refl;
           }
         where
           wider : (n : ℕ) → among n (2 ∷ 100 ∷ 101 ∷ 102 ∷ 103 ∷ []) ≡ true → among n raiseNumbers ≡ true
@@ -156,8 +146,8 @@ module _ (d : Device) (l : Lent) where
               by true b h f = refl
               by false b h f = f h
 
-  text-fine : H (listed readText) d l (textRead d l)
-  unfolding textRead listed
+  text-fine : H (listedReceive readText) d l (textRead d l)
+  unfolding textRead
   text-fine =
       let ns : List ℕ = 2 ∷ 3 ∷ 4 ∷ 14 ∷ 0 ∷ [] in
       both (H ns d l) (queueReady d l) _ _
@@ -171,10 +161,10 @@ module _ (d : Device) (l : Lent) where
   Read g = H (2 ∷ 4 ∷ 14 ∷ 0 ∷ []) d l (ends (g .number) 0 (g .bytes) (withReceive d (g .receive)) l)
 
   not-read : (n : ℕ) → among n (2 ∷ 4 ∷ 14 ∷ 0 ∷ []) ≡ true → Read (notRead n (d .receive))
-  not-read n h = record { is-listed = h; device-kept = λ x. refl; bytes-kept = λ x. refl; zero-bytes = λ x. refl; zero-value = λ x. refl }
+  not-read n h = record { is-listed = h; device-kept = λ x. refl; bytes-kept = λ x. refl; zero-bytes = λ x. refl; value-is = λ x. refl }
 
-  record-fine : H (listed readRecord) d l (recordRead d l)
-  unfolding recordRead reading listed
+  record-fine : H (listedReceive readRecord) d l (recordRead d l)
+  unfolding recordRead reading
   record-fine =
       let ns : List ℕ = 2 ∷ 4 ∷ 14 ∷ 0 ∷ [] in
       both (H ns d l) (queueReady d l) _ _
@@ -182,7 +172,7 @@ module _ (d : Device) (l : Lent) where
       (both Read (eqb (d .receive .ring .count) 0) _ _ (not-read 4 refl)
       (both Read (isEvent (slotAt (d .receive) (l .queue) 0)) _ _ (succeeds ns d l 0 _ _ _ refl) (not-read 14 refl)))
       (not-read 2 refl))
-      (record { is-listed = refl; device-kept = λ x. refl; bytes-kept = λ x. refl; zero-bytes = λ x. refl; zero-value = λ x. refl })
+      (record { is-listed = refl; device-kept = λ x. refl; bytes-kept = λ x. refl; zero-bytes = λ x. refl; value-is = λ x. refl })
 
   changed-fine : (s : Shared) (tick : ℕ) → H (2 ∷ 1 ∷ 0 ∷ []) d l (changed s tick d l)
   unfolding changed
@@ -192,18 +182,18 @@ module _ (d : Device) (l : Lent) where
       (both (H ns d l) (goodShared s) _ _ (succeeds-noted ns d l true (eventOf 5 tick noMessage) 0 [] (withShared d s) l refl) (refused ns d l 1 refl))
       (refused ns d l 2 refl)
 
-  filter-fine : (code mask : ℕ) → H (listed (setFilter code mask)) d l (filterSet code mask d l)
-  unfolding filterSet listed
+  filter-fine : (code mask : ℕ) → H (listedReceive (setFilter code mask)) d l (filterSet code mask d l)
+  unfolding filterSet
   filter-fine code mask = both (H (2 ∷ 0 ∷ []) d l) (good d) _ _ (succeeds (2 ∷ 0 ∷ []) d l _ _ _ _ refl) (refused (2 ∷ 0 ∷ []) d l 2 refl)
 
-  mask-fine : (events : ℕ) → H (listed (setEventMask events)) d l (eventMaskSet events d l)
-  unfolding eventMaskSet listed
+  mask-fine : (events : ℕ) → H (listedReceive (setEventMask events)) d l (eventMaskSet events d l)
+  unfolding eventMaskSet
   mask-fine events =
       let ns : List ℕ = 2 ∷ 1 ∷ 0 ∷ [] in
-      both (H ns d l) (good d) _ _ (both (H ns d l) (ltb events 4096) _ _ (succeeds ns d l _ _ _ _ refl) (refused ns d l 1 refl)) (refused ns d l 2 refl)
+      both (H ns d l) (good d) _ _ (both (H ns d l) (isMask events) _ _ (succeeds ns d l _ _ _ _ refl) (refused ns d l 1 refl)) (refused ns d l 2 refl)
 
-  through-fine : (format : ℕ) → H (listed (identifiersThrough format)) d l (through format d l)
-  unfolding through listed
+  through-fine : (format : ℕ) → H (listedReceive (identifiersThrough format)) d l (through format d l)
+  unfolding through
   through-fine format =
       let ns : List ℕ = 2 ∷ 13 ∷ 0 ∷ [] in
       both (H ns d l) (good d) _ _ (both (H ns d l) (isFormat format) _ _ (succeeds ns d l _ _ _ _ refl) (refused ns d l 13 refl)) (refused ns d l 2 refl)
@@ -216,25 +206,22 @@ module _ (d : Device) (l : Lent) where
       (both (λ (g : Sending). Other ns (g .number)) (ltb (d .send .ring .count) (d .send .ring .capacity)) _ _ (λ e. z) (λ e. f)) (λ e. t))
       (λ e. succeeds ns d l _ _ _ _ z)
 
-  send-fine : (m : Message) → H (listed (send m)) d l (sent m d l)
-  unfolding sent listed
+  send-fine : (m : Message) → H (listedSend (send m)) d l (sent m d l)
+  unfolding sent
   send-fine m =
       let ns : List ℕ = 2 ∷ 13 ∷ 8 ∷ 9 ∷ 10 ∷ 5 ∷ 0 ∷ [] in
-      let f = formatOf (d .shared) (m .header .format) in
       both (H ns d l) (sendReady d l) _ _
-      (both (H ns d l) (isFormat f && modeTakes (d .shared .mode) f) _ _
-      (both (H ns d l) (isBad (rawOf (d .shared .align) f (m .header .id))) _ _ (refused ns d l 8 refl)
-      (both (H ns d l) (leb (m .header .rtr) 1) _ _
-      (both (H ns d l) (leb (m .header .dlc) 15) _ _ (put-fine ns (sentMessage m d) 0 refl refl refl) (refused ns d l 10 refl)) (refused ns d l 9 refl)))
-      (refused ns d l 13 refl))
+      (by-number ns d l (binaryRefusal (d .shared) m) _
+      (binary-number (Other ns) (d .shared) m (λ e. refl) (λ e. refl) (λ e. refl) (λ e. refl) (λ e. refl))
+      (λ z. put-fine ns (sentMessage (d .shared) m) 0 refl refl refl))
       (refused ns d l 2 refl)
 
   -- a refusal that answers zero bytes
-  refused-bytes : (ns : List ℕ) (n : ℕ) → among n ns ≡ true → H ns d l (ends n 0 (replicate 16 0) d l)
-  refused-bytes ns n h = record { is-listed = h; device-kept = λ x. refl; bytes-kept = λ x. refl; zero-bytes = λ x. refl; zero-value = λ x. refl }
+  refused-bytes : (ns : List ℕ) (n : ℕ) → among n ns ≡ true → H ns d l (ends n 0 (replicate messageSize 0) d l)
+  refused-bytes ns n h = record { is-listed = h; device-kept = λ x. refl; bytes-kept = λ x. refl; zero-bytes = λ x. refl; value-is = λ x. refl }
 
-  take-fine : (tick : ℕ) → H (listed (take tick)) d l (taken tick d l)
-  unfolding taken taking listed
+  take-fine : (tick : ℕ) → H (listedSend (take tick)) d l (taken tick d l)
+  unfolding taken taking
   take-fine tick =
       let ns : List ℕ = 2 ∷ 5 ∷ 4 ∷ 14 ∷ 0 ∷ [] in
       let o = taking (d .send) (l .send) in
@@ -243,19 +230,19 @@ module _ (d : Device) (l : Lent) where
       (both N (d .send .held) _ _ refl (both N (eqb (d .send .ring .count) 0) _ _ refl (both N (isMessage (Outbox.oldest (d .send) (l .send))) _ _ refl refl)))
       refl in
       both (H ns d l) (bothReady d l) _ _
-      (both (H ns d l) (eqb (o .number) 0) _ _ (succeeds-noted ns d l (Outbox.raisesAtTake (d .send .tx)) _ 0 _ _ _ refl) (refused-bytes ns (o .number) h))
+      (both (H ns d l) (eqb (o .number) 0) _ _ (succeeds-noted ns d l (raisesAtTake (d .send .tx)) _ 0 _ _ _ refl) (refused-bytes ns (o .number) h))
       (refused-bytes ns 2 refl)
 
-  done-fine : (tick : ℕ) → H (listed (done tick)) d l (finished tick d l)
-  unfolding finished listed
+  done-fine : (tick : ℕ) → H (listedSend (done tick)) d l (finished tick d l)
+  unfolding finished
   done-fine tick =
       let ns : List ℕ = 2 ∷ 4 ∷ 0 ∷ [] in
       both (H ns d l) (queueReady d l) _ _
-      (both (H ns d l) (d .send .held) _ _ (succeeds-noted ns d l (Outbox.raisesAtDone (d .send .tx)) _ 0 [] _ l refl) (refused ns d l 4 refl))
+      (both (H ns d l) (d .send .held) _ _ (succeeds-noted ns d l (raisesAtDone (d .send .tx)) _ 0 [] _ l refl) (refused ns d l 4 refl))
       (refused ns d l 2 refl)
 
-  abort-fine : (tick : ℕ) → H (listed (abort tick)) d l (aborted tick d l)
-  unfolding aborted listed
+  abort-fine : (tick : ℕ) → H (listedSend (abort tick)) d l (aborted tick d l)
+  unfolding aborted
   abort-fine tick =
       both (H (2 ∷ 0 ∷ []) d l) (queueReady d l) _ _ (succeeds-noted (2 ∷ 0 ∷ []) d l (d .send .held) _ _ [] _ l refl) (refused (2 ∷ 0 ∷ []) d l 2 refl)
 
@@ -265,22 +252,22 @@ module _ (d : Device) (l : Lent) where
   print-fine ns n line z t h =
       pick-is (H ns d l) (good d) (λ g. by-number ns d l n _ (h (align-in d g)) (λ e. succeeds ns d l _ _ _ _ z)) (λ g. refused ns d l 2 t)
 
-  message-record-fine : (s : List ℕ) → H (listed (printMessageRecord s)) d l (messageRecordPrinted s d l)
-  unfolding messageRecordRefusal listed
+  message-record-fine : (s : List ℕ) → H (listedPrint (printMessageRecord s)) d l (messageRecordPrinted s d l)
+  unfolding messageRecordRefusal
   message-record-fine s =
       let ns : List ℕ = 2 ∷ 3 ∷ 14 ∷ 0 ∷ [] in
       print-fine ns _ _ refl refl
       (room-align ns (d .shared .align) (length (l .out)) 37 (pick (isMessage s) 0 14) refl (both (Other ns) (isMessage s) 0 14 (λ e. refl) (λ e. refl)))
 
-  event-record-fine : (s : List ℕ) → H (listed (printEventRecord s)) d l (eventRecordPrinted s d l)
-  unfolding eventRecordRefusal listed
+  event-record-fine : (s : List ℕ) → H (listedPrint (printEventRecord s)) d l (eventRecordPrinted s d l)
+  unfolding eventRecordRefusal
   event-record-fine s =
       let ns : List ℕ = 2 ∷ 3 ∷ 14 ∷ 0 ∷ [] in
       print-fine ns _ _ refl refl
       (room-align ns (d .shared .align) (length (l .out)) 80 (pick (isEvent s) 0 14) refl (both (Other ns) (isEvent s) 0 14 (λ e. refl) (λ e. refl)))
 
-  message-fine : (m : Message) → H (listed (printMessage m)) d l (messagePrinted m d l)
-  unfolding messageRefusal listed
+  message-fine : (m : Message) → H (listedPrint (printMessage m)) d l (messagePrinted m d l)
+  unfolding messageRefusal
   message-fine m =
       let ns : List ℕ = 2 ∷ 3 ∷ 13 ∷ 8 ∷ 9 ∷ 10 ∷ 0 ∷ [] in
       print-fine ns _ _ refl refl
@@ -288,68 +275,95 @@ module _ (d : Device) (l : Lent) where
       (header-number (Other ns) (m .header) (λ e. refl) (λ e. refl) (λ e. refl) (λ e. refl) (λ e. refl)))
 
   -- a look that is refused hands back an empty part
-  look-fine : (p : ℕ) → H (listed (look p)) d l (step (look p) d l)
-  unfolding step listed lookSaid lookNumber looked isRefusal
+  look-fine : (p : ℕ) → H (listedReceive (look p)) d l (receiveOutcome (look p) d l)
+  unfolding lookSaid lookNumber looked isRefusal
   look-fine p = by (good d) (usable (d .receive) (l .queue)) (ltb p (d .receive .ring .count)) refl refl refl
     where
-      by : (a b c : Bool) → good d ≡ a → usable (d .receive) (l .queue) ≡ b → ltb p (d .receive .ring .count) ≡ c → H (2 ∷ 4 ∷ 0 ∷ []) d l (step (look p) d l)
+      by : (a b c : Bool) → good d ≡ a → usable (d .receive) (l .queue) ≡ b → ltb p (d .receive .ring .count) ≡ c → H (2 ∷ 4 ∷ 0 ∷ []) d l (receiveOutcome (look p) d l)
       by true true true x y z = rw (x, y, z) (succeeds (2 ∷ 4 ∷ 0 ∷ []) d l _ _ _ _ refl)
       by true true false x y z = rw (x, y, z) (refused (2 ∷ 4 ∷ 0 ∷ []) d l 4 refl)
       by true false c x y z = rw (x, y) (refused (2 ∷ 4 ∷ 0 ∷ []) d l 2 refl)
       by false b c x y z = rw x (refused (2 ∷ 4 ∷ 0 ∷ []) d l 2 refl)
 
-  -- a text send: beside a refusal it answers the bytes used
-  abbrev textNumbers : List ℕ
-  textNumbers = 2 ∷ 6 ∷ 7 ∷ 8 ∷ 9 ∷ 10 ∷ 11 ∷ 12 ∷ 5 ∷ 0 ∷ []
+  -- a text send: a refused text answers the bytes used, but 0 on 2, 5 and 6
+  module _ (text : List ℕ) where
+    abbrev textNumbers : List ℕ
+    textNumbers = 2 ∷ 6 ∷ 7 ∷ 8 ∷ 9 ∷ 10 ∷ 11 ∷ 12 ∷ 5 ∷ 0 ∷ []
 
-  abbrev T : Outcome → Type 0
-  T o = Harmless textNumbers (λ v. Unit {0}) d l o
+    abbrev T : Outcome → Type 0
+    T o = Harmless textNumbers (besideSend (sendText text)) d l o
 
-  weaker : (o : Outcome) → H textNumbers d l o → T o
-  weaker o h = record {
-    is-listed = h .is-listed;
-    device-kept = h .device-kept;
-    bytes-kept = h .bytes-kept;
-    zero-bytes = h .zero-bytes;
-    zero-value = λ e. tt;
-  }
+    refused-text : (n used : ℕ) → among n textNumbers ≡ true → used ≡ besideSend (sendText text) n → T (ends n used [] d l)
+    refused-text n used h u = record {
+      is-listed = h;
+      device-kept = λ x. refl;
+      bytes-kept = λ x. refl;
+      zero-bytes = λ x. refl;
+      value-is = λ x. u;
+    }
 
-  refused-text : (n used : ℕ) → among n textNumbers ≡ true → T (ends n used [] d l)
-  refused-text n used h = record { is-listed = h; device-kept = λ x. refl; bytes-kept = λ x. refl; zero-bytes = λ x. refl; zero-value = λ x. tt }
+    taken-text : (v : ℕ) (e : Device) (m : Lent) → T (ends 0 v [] e m)
+    unfolding isRefusal
+    taken-text v e m = record {
+      is-listed = refl;
+      device-kept = λ x. absurd (apart (sym x));
+      bytes-kept = λ x. absurd (apart (sym x));
+      zero-bytes = λ x. refl;
+      value-is = λ x. absurd (apart (sym x));
+    }
 
-  send-text-fine : (text : List ℕ) → T (textSent text d l)
-  unfolding textSent
-  send-text-fine text =
-      both T (sendReady d l) _ _
-      (read-is (λ s. T (putSaid s d l)) (d .shared .align) (formatOf (d .shared) (d .shared .format)) text (refused-text 6 0 refl)
-      (λ n h. refused-text n _ (among-last n (2 ∷ 6 ∷ []) (7 ∷ 8 ∷ 9 ∷ 10 ∷ 11 ∷ 12 ∷ 5 ∷ 0 ∷ []) (text-among n h))) (λ f. weaker _ (put-fine textNumbers _ _ refl refl refl)))
-      (refused-text 2 0 refl)
+    -- a message that a text says is put in, or there is no place
+    put-text : (m : Message) (v : ℕ) → T (put m v d l)
+    unfolding put sending
+    put-text m v =
+        both (λ (g : Sending). T (pick (eqb (g .number) 0) (ends 0 v [] (withSend d (g .send)) (withTable l (g .table))) (refuses (g .number) d l)))
+        (Outbox.usable (d .send) (l .send)) _ _
+        (both (λ (g : Sending). T (pick (eqb (g .number) 0) (ends 0 v [] (withSend d (g .send)) (withTable l (g .table))) (refuses (g .number) d l)))
+        (ltb (d .send .ring .count) (d .send .ring .capacity)) _ _ (taken-text v _ _) (refused-text 5 0 refl refl))
+        (refused-text 2 0 refl refl)
+
+    -- a refusal of a text with an end is none of 2, 5 and 6
+    other : (n : ℕ) → among n (7 ∷ 8 ∷ 9 ∷ 10 ∷ 11 ∷ 12 ∷ []) ≡ true → T (ends n (usedOf text) [] d l)
+    other n h =
+        let ns : List ℕ = 7 ∷ 8 ∷ 9 ∷ 10 ∷ 11 ∷ 12 ∷ [] in
+        let out : not (among n (2 ∷ 5 ∷ 6 ∷ [])) ≡ true = each-is (λ k. not (among k (2 ∷ 5 ∷ 6 ∷ []))) n ns refl h in
+        let none-of : among n (2 ∷ 5 ∷ 6 ∷ []) ≡ false = denied refl out in
+        refused-text n (usedOf text) (each-is (λ k. among k textNumbers) n ns refl h) (rw none-of)
+
+    send-text-fine : T (textSent text d l)
+    unfolding textSent
+    send-text-fine =
+        both T (sendReady d l) _ _
+        (read-is (λ s. T (putSaid s d l)) (d .shared .align) (formatOf (d .shared) (d .shared .format)) text (refused-text 6 0 refl refl)
+        other (λ f. put-text _ _))
+        (refused-text 2 0 refl refl)
 
 -- ---- demand 1
 
--- every call on any device, with any tables and buffers: its number is one of those listed for it, and a refusal changes nothing and stands beside zeros
-pub harmless : (x : Call) (d : Device) (l : Lent) → Harmless (listed x) (beside x) d l (step x d l)
-unfolding step listed beside
-harmless (raise code tick m) d l = raise-fine d l code tick m
-harmless readText d l = text-fine d l
-harmless readRecord d l = record-fine d l
-harmless (look p) d l = look-fine d l p
-harmless (setMode mode tick) d l = changed-fine d l _ tick
-harmless (setFormat format tick) d l = changed-fine d l _ tick
-harmless (setFilter code mask) d l = filter-fine d l code mask
-harmless (setEventMask mask) d l = mask-fine d l mask
-harmless (send m) d l = send-fine d l m
-harmless (sendText text) d l = send-text-fine d l text
-harmless (take tick) d l = take-fine d l tick
-harmless (done tick) d l = done-fine d l tick
-harmless (abort tick) d l = abort-fine d l tick
-harmless (printMessageRecord s) d l = message-record-fine d l s
-harmless (printEventRecord s) d l = event-record-fine d l s
-harmless (printMessage m) d l = message-fine d l m
-harmless (identifiersThrough format) d l = through-fine d l format
+-- THEOREM, demand 1. Every call on any device, with any tables and buffers: its number is one of those listed for it, and a refusal changes
+-- nothing and stands beside zeros, a refused text beside the bytes used
+pub harmless : (x : Call) (d : Device) (l : Lent) → CallHarmless x d l
+unfolding outcome listed beside
+harmless (onDevice (raise code tick m)) d l = raise-fine d l code tick m
+harmless (onDevice (setMode mode tick)) d l = changed-fine d l _ tick
+harmless (onDevice (setFormat format tick)) d l = changed-fine d l _ tick
+harmless (onReceive readRecord) d l = record-fine d l
+harmless (onReceive readText) d l = text-fine d l
+harmless (onReceive (look p)) d l = look-fine d l p
+harmless (onReceive (setFilter code mask)) d l = filter-fine d l code mask
+harmless (onReceive (setEventMask mask)) d l = mask-fine d l mask
+harmless (onReceive (identifiersThrough format)) d l = through-fine d l format
+harmless (onSend (send m)) d l = send-fine d l m
+harmless (onSend (sendText text)) d l = send-text-fine d l text
+harmless (onSend (take tick)) d l = take-fine d l tick
+harmless (onSend (done tick)) d l = done-fine d l tick
+harmless (onSend (abort tick)) d l = abort-fine d l tick
+harmless (onAlign (printMessageRecord s)) d l = message-record-fine d l s
+harmless (onAlign (printEventRecord s)) d l = event-record-fine d l s
+harmless (onAlign (printMessage m)) d l = message-fine d l m
 
--- opening: 1, 2 or 0; a refusal answers the device of zeros and writes no table byte
-pub open-harmless : (s : Settings) (l : Lent) → Harmless (1 ∷ 2 ∷ 0 ∷ []) (λ v. v ≡ 0) noDevice l (opened s l)
+-- THEOREM, demand 1, of opening: 1, 2 or 0; a refusal answers the device of zeros and writes no table byte
+pub open-harmless : (s : Settings) (l : Lent) → Harmless (1 ∷ 2 ∷ 0 ∷ []) (λ n. 0) noDevice l (opened s l)
 unfolding opened
 open-harmless s l =
     let ns : List ℕ = 1 ∷ 2 ∷ 0 ∷ [] in

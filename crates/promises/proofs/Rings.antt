@@ -11,13 +11,8 @@ use Rattle.common.specs.Rings.{goodRing, slotOf, withOneMore, withoutOldest}
 use Rattle.common.specs.Slots.{slot, store, ring}
 use Rattle.common.specs.declared.Ring.{Ring}
 use Rattle.common.proofs.RingFacts.{RingFacts, slot-inside}
-use Rattle.common.proofs.Slots.{store-length, ring-length, ring-rest, ring-store}
+use Rattle.common.proofs.Slots.{store-length, ring-rest, ring-store}
 use Rattle.promises.specs.Runs.{held}
-use Rattle.promises.specs.Promised.{Every}
-
-pub every-snoc : (P : List ℕ → Type 0) (bs : List (List ℕ)) (b : List ℕ) → Every P bs → P b → Every P (bs ++ b ∷ [])
-every-snoc P [] b h e = (e, tt)
-every-snoc P (x ∷ bs) b h e = (h .0, every-snoc P bs b (h .1) e)
 
 module _ (limit : ℕ) (r : Ring) where
   -- the numbers of a ring that has them are good
@@ -34,9 +29,6 @@ module _ (limit : ℕ) (r : Ring) where
   facts-rest f = record { some = f .some; within = f .within; first-in = mod-lt (r .first + 1) (f .some); count-in = omega (arith, f .count-in) }
 
 module _ (w limit : ℕ) (r : Ring) (t : List ℕ) (f : RingFacts limit r) (long : w * r .capacity ≤ length t) where
-  pub held-length : length (held w r t) ≡ r .count
-  held-length = ring-length w t (r .capacity) (r .first) (r .count)
-
   -- a store behind the newest: one more at the end
   pub held-more : (b : List ℕ) → r .count < r .capacity → length b ≡ w
       → held w (withOneMore r) (store w t (slotOf r (r .count)) b) ≡ held w r t ++ b ∷ []

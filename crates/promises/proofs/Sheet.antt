@@ -18,79 +18,95 @@ use Rattle.ids.specs.Ids.{isFormat, idBits, idLow, rawOf}
 use Rattle.ids.specs.Frames.{headerRefusal, carried}
 use Rattle.ids.specs.Filters.{isFilter, filterLow, dataCompared, free, fieldMeets, idPasses, byteMeets, dataPasses, modeTakes, framePasses, freeBits, letThrough}
 use Rattle.ids.specs.EventMask.{maskBit, maskLets}
-use Rattle.records.specs.Messages.{stored, goodMessage, messageBytes, messageIn, isMessage, noMessage, judgeMessage}
-use Rattle.records.specs.Events.{holdsFrame, kindOf, eventBytes, eventIn, isEvent}
+use Rattle.records.specs.Messages.{messageSize, stored, goodMessage, messageBytes, messageIn, isMessage, noMessage, judgeMessage}
+use Rattle.records.specs.Events.{eventSize, holdsFrame, kindOf, eventBytes, eventIn, isEvent}
 use Rattle.records.specs.declared.Message.{Message}
-use Rattle.queue.specs.Queue.{goodReceive, filtered, queued, unfiltered, raising, reading}
-use Rattle.outbox.specs.Outbox.{goodTx, goodSend, sending}
+use Rattle.queue.specs.Queue.{goodReceive, queued, unfiltered, raising, reading}
+use Rattle.records.specs.Raised.{filtered, eventOf}
+use Rattle.outbox.specs.Outbox.{goodSend, sending}
+use Rattle.settings.specs.TxMode.{goodTx}
 use Rattle.message_text.specs.Numbers.{numbersFrom, beforeEnd, endRun}
 use Rattle.message_text.specs.Reading.{allBytes, judgedData, judged, readMessage}
-use Rattle.message_text.specs.Printing.{messageText, messageLine, messageRefusal}
+use Rattle.message_text.specs.Printing.{messageRoom, messageText, messageLine, messageRefusal}
 use Rattle.event_text.specs.Words.{wordOf}
 use Rattle.event_text.specs.Lines.{frameText, eventText, eventLine}
-use Rattle.recorder.specs.State.{goodShared, good, formatOf}
-use Rattle.recorder.specs.Outcomes.{Lent, lends, Outcome, eventOf}
+use Rattle.recorder.specs.State.{good}
+use Rattle.settings.specs.Ranges.{goodShared, formatOf}
+use Rattle.recorder.specs.Outcomes.{Lent, lends, Outcome}
 use Rattle.recorder.specs.Receiving.{opened, raised, recordRead, textRead, through}
 use Rattle.recorder.specs.Sending.{put, textSent}
 use Rattle.recorder.specs.Printing.{linePrinted}
-use Rattle.recorder.specs.declared.Settings.{Settings}
-use Rattle.promises.specs.Calls.{Call, raise, readText, readRecord, sendText, printMessage, identifiersThrough, step}
-use Rattle.promises.specs.Typed.{Word, Typed, Made}
-use Rattle.promises.specs.Mail.{sentBy, leftBy}
-use Rattle.promises.specs.Runs.{withPlaces, Run, Entry, handed, logged, next, run, started, lent}
-use Rattle.promises.specs.Promised.{recorded}
-use Rattle.promises.specs.Counting.{lostIn}
+use Rattle.settings.specs.declared.Settings.{Settings}
+use Rattle.model.specs.Inbox.{readText, readRecord, identifiersThrough}
+use Rattle.model.specs.Outbox.{sendText}
+use Rattle.model.specs.Box.{raise, printMessage, Call, onDevice, onReceive, onSend, onAlign}
+use Rattle.model.specs.Promised.{withPlaces}
+use Rattle.promises.specs.Typed.{Word, Made}
+use Rattle.promises.specs.Calls.{outcome}
+use Rattle.promises.specs.Runs.{Run, lent, recordedBytes, next, run, started}
+use Rattle.promises.specs.Promised.{lostIn}
 
 -- one place for events and one for messages
 abbrev settings : (align code mask : ℕ) → Settings
 settings align code mask = record { mode = 0; format = 0; align = align; active = 0; code = code; mask = mask; events = 0xFFF; queue = 1; tx = 1; buffer = 1 }
 
 abbrev tables : Lent
-tables = lends (replicate 32 0) (replicate 16 0) (replicate 37 0)
+tables = lends (replicate eventSize 0) (replicate messageSize 0) (replicate messageRoom 0)
 
 -- what a call answers on a device that was just opened
-abbrev asked : Settings → Call → Outcome
-asked s x = step x (opened s tables .device) tables
+abbrev asks : Settings → Call → Outcome
+asks s x = outcome x (opened s tables .device) tables
 
 -- a text: number, bytes used, and the message bytes that it has stored
 abbrev text : String → List ℕ
-text t = let o : Outcome = asked (settings 0 0 0) (sendText (ascii t)) in o .number ∷ o .value ∷ o .lent .send
+text t = let o : Outcome = asks (settings 0 0 0) (onSend (sendText (ascii t))) in o .number ∷ o .value ∷ o .lent .send
 
 -- the standard frame 731 as it is shown
 abbrev shown : ℕ → List ℕ
 shown align =
-    let o : Outcome = asked (settings align 0 0) (printMessage (record { header = record { id = 0x731; format = 1; rtr = 0; dlc = 0 }; bytes = replicate 8 0 })) in
+    let o : Outcome = asks (settings align 0 0) (onAlign (printMessage (record { header = record { id = 0x731; format = 1; rtr = 0; dlc = 0 }; bytes = replicate 8 0 }))) in
     take (o .value) (o .lent .out)
 
 -- the standard frame 200 with two data bytes, of which it carries dlc: 100 where it passes, 101 where it is filtered
 abbrev frame200 : (dlc first second : ℕ) → List ℕ
 frame200 dlc a b =
     let frame : Message = record { header = record { id = 0x200; format = 1; rtr = 0; dlc = dlc }; bytes = a ∷ b ∷ replicate 6 0 } in
-    asked (settings 0 0x40000100 0x000000FF) (raise 1 0 frame) .number ∷ []
+    asks (settings 0 0x40000100 0x000000FF) (onDevice (raise 1 0 frame)) .number ∷ []
 
 -- number, and how many standard identifiers pass
 abbrev letIn : (align code mask : ℕ) → List ℕ
-letIn align code mask = let o : Outcome = asked (settings align code mask) (identifiersThrough 1) in o .number ∷ o .value ∷ []
+letIn align code mask = let o : Outcome = asks (settings align code mask) (onReceive (identifiersThrough 1)) in o .number ∷ o .value ∷ []
 
 -- a warning is raised, or the oldest is read
 warning : (tick : ℕ) → Word tick → Made
-unfolding Typed
-warning tick w = record { call = raise 9 tick noMessage; out = []; typed = (omega arith, w, record { eight = refl; bytes = zeros-bytes 8 }) }
+warning tick w = record {
+  call = onDevice (raise 9 tick noMessage);
+  out = [];
+  typed = (
+    omega arith,
+    w,
+    record { id = omega arith; format = omega arith; rtr = omega arith; dlc = omega arith; eight = refl; bytes = zeros-bytes 8 },
+  );
+}
 
 reading-one : Made
-unfolding Typed
-reading-one = record { call = readRecord; out = []; typed = tt }
+reading-one = record { call = onReceive readRecord; out = []; typed = tt }
 
 -- what calls have recorded in a queue of c places
-abbrev records : ℕ → List Made → List Entry
-records c xs = recorded (run xs (started (withPlaces (settings 0 0 0xFFFFFFFF) c) (lends (replicate (32 * c) 0) (replicate 16 0) [])))
+abbrev records : ℕ → List Made → List (List ℕ)
+records c xs =
+    recordedBytes (run xs (started (withPlaces (settings 0 0 0xFFFFFFFF) c) (lends (replicate (eventSize * c) 0) (replicate messageSize 0) [])))
 
--- the lost counts of it, and the ticks
-abbrev lostCounts : ℕ → List Made → List ℕ
-lostCounts c xs = map (λ (e : Entry). lostIn (e .bytes)) (records c xs)
+-- the ticks of it, and each tick with its lost count
+abbrev tickIn : List ℕ → ℕ
+tickIn b = numberOf (slice 4 8 b)
 
 abbrev ticks : ℕ → List Made → List ℕ
-ticks c xs = map (λ (e : Entry). numberOf (slice 4 8 (e .bytes))) (records c xs)
+ticks c xs = map tickIn (records c xs)
+
+abbrev losses : List (List ℕ) → List ℕ
+losses [] = []
+losses (b ∷ bs) = tickIn b ∷ lostIn b ∷ losses bs
 
 -- a case: the paper's words, what the definitions say, what the paper says
 pub record Row : Type 0 where
@@ -106,7 +122,7 @@ abbrev none : List ℕ
 none = replicate 8 0
 
 abbrev untouched : List ℕ
-untouched = replicate 16 0
+untouched = replicate messageSize 0
 
 pub rows : List Row
 rows =
@@ -124,17 +140,16 @@ rows =
     ∷ row "P with 02 07 it doesn't" (frame200 2 0x02 0x07) (101 ∷ [])
     ∷ row "P Align 1, code 400, mask 3FF: 1,024 identifiers" (letIn 1 0x400 0x3FF) (0 ∷ 1024 ∷ [])
     ∷ row "P capacity 1, raise A, B, C, read, raise D: A has lost 0, D has lost 2"
-    (lostCounts 1 (warning 0xA (omega arith) ∷ warning 0xB (omega arith) ∷ warning 0xC (omega arith) ∷ reading-one ∷ warning 0xD (omega arith) ∷ []))
-    (0 ∷ 2 ∷ [])
+    (losses (records 1 (warning 0xA (omega arith) ∷ warning 0xB (omega arith) ∷ warning 0xC (omega arith) ∷ reading-one ∷ warning 0xD (omega arith) ∷ [])))
+    (0xA ∷ 0 ∷ 0xD ∷ 2 ∷ [])
     ∷ []
 
 -- the definitions say what the sheet says
 pub sheet : map (λ (r : Row). r .said) rows ≡ map (λ (r : Row). r .paper) rows
-unfolding rows warning reading-one step opened goodShared good formatOf goodReceive goodRing goodTx goodSend modeTakes textSent readMessage beforeEnd endRun byteKind
+unfolding rows warning reading-one outcome opened goodShared good formatOf goodReceive goodRing goodTx goodSend modeTakes textSent readMessage beforeEnd endRun byteKind
     judged judgedData numbersFrom rawOf isFormat idLow idBits carried allBytes put sending slotOf store slot ring messageBytes linePrinted messageRefusal
     headerRefusal messageLine messageText hex hexDigit fields raised holdsFrame kindOf eventOf stored raising unfiltered filtered framePasses idPasses isFilter
-    filterLow dataCompared free fieldMeets byteMeets dataPasses maskBit maskLets queued eventBytes through freeBits letThrough recorded run next handed logged
-    sentBy leftBy recordRead reading isEvent
+    filterLow dataCompared free fieldMeets byteMeets dataPasses maskBit maskLets queued eventBytes through freeBits letThrough run next recordRead reading isEvent
 sheet = refl
 
 -- raise 1, 2, read, raise 3, 4, read, raise 5
@@ -144,11 +159,14 @@ fives =
 
 -- the frame 112 is received at tick 12568
 received : Made
-unfolding Typed
 received = record {
-  call = raise 1 12568 (record { header = record { id = 0x112; format = 1; rtr = 1; dlc = 0 }; bytes = replicate 8 0 });
+  call = onDevice (raise 1 12568 (record { header = record { id = 0x112; format = 1; rtr = 1; dlc = 0 }; bytes = replicate 8 0 }));
   out = [];
-  typed = (omega arith, omega arith, record { eight = refl; bytes = zeros-bytes 8 });
+  typed = (
+    omega arith,
+    omega arith,
+    record { id = omega arith; format = omega arith; rtr = omega arith; dlc = omega arith; eight = refl; bytes = zeros-bytes 8 },
+  );
 }
 
 -- it is recorded after five were lost, then read as text into so much room: number, and the line
@@ -156,7 +174,7 @@ abbrev readInto : ℕ → List ℕ
 readInto room =
     let one : Made = warning 1 (omega arith) in
     let r : Run = run (one ∷ one ∷ one ∷ one ∷ one ∷ one ∷ reading-one ∷ received ∷ []) (started (settings 0 0 0xFFFFFFFF) tables) in
-    let o : Outcome = step readText (r .device) (lent r (replicate room 0)) in
+    let o : Outcome = outcome (onReceive readText) (r .device) (lent r (replicate room 0)) in
     o .number ∷ take (o .value) (o .lent .out)
 
 pub others : List Row
@@ -175,9 +193,8 @@ others =
 
 -- and so they do of the other cases
 pub others-too : map (λ (r : Row). r .said) others ≡ map (λ (r : Row). r .paper) others
-unfolding others received warning reading-one step opened goodShared good formatOf goodReceive goodRing goodTx goodSend modeTakes textSent readMessage beforeEnd endRun
+unfolding others received warning reading-one outcome opened goodShared good formatOf goodReceive goodRing goodTx goodSend modeTakes textSent readMessage beforeEnd endRun
     byteKind judged judgedData numbersFrom rawOf isFormat idLow idBits carried allBytes put sending slotOf store slot ring messageBytes linePrinted messageRefusal
     headerRefusal messageLine messageText hex hexDigit fields raised holdsFrame kindOf eventOf stored raising unfiltered filtered framePasses idPasses isFilter
-    filterLow dataCompared free fieldMeets byteMeets dataPasses maskBit maskLets queued eventBytes through freeBits letThrough recorded run next handed logged
-    sentBy leftBy recordRead reading isEvent textRead eventIn judgeMessage messageIn isMessage goodMessage eventLine eventText frameText wordOf decimalIn
+    filterLow dataCompared free fieldMeets byteMeets dataPasses maskBit maskLets queued eventBytes through freeBits letThrough run next recordRead reading isEvent textRead eventIn judgeMessage messageIn isMessage goodMessage eventLine eventText frameText wordOf decimalIn
 others-too = refl

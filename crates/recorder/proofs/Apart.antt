@@ -1,26 +1,28 @@
 -- Refusal 2 apart, no send-side answer depends on the event queue: two devices that differ in their receive channels, over any two event tables,
 -- both ready, give the same number, value and bytes, and leave the same send channel and the same message table.
 use mathlib.Core.Path.{_≡_, refl}
-use mathlib.Core.Bool.{Bool, true, false, _&&_}
+use mathlib.Core.Bool.{Bool, true, false}
 use mathlib.Core.List.{List, []}
 use Prim.Native.Nat.{ℕ}
-use lib.Dec.{leb, eqb}
+use lib.Dec.{eqb}
 use Rattle.common.specs.Choice.{pick}
-use Rattle.ids.specs.Ids.{isFormat, rawOf}
-use Rattle.ids.specs.Filters.{modeTakes}
 use Rattle.records.specs.Messages.{messageBytes}
 use Rattle.records.specs.declared.Message.{Message}
 use Rattle.records.specs.declared.Event.{Event}
-use Rattle.queue.specs.declared.Receive.{Receive}
-use Rattle.outbox.specs.Outbox.{sending, taking, raisesAtTake, raisesAtDone, afterDone, afterAbort}
-use Rattle.outbox.specs.declared.Send.{Send}
-use Rattle.message_text.specs.Reading.{isBad, readMessage}
+use Rattle.records.specs.Raised.{eventOf}
+use Rattle.message_text.specs.Reading.{readMessage}
 use Rattle.message_text.specs.declared.Said.{Said}
 use Rattle.message_text.specs.declared.Answer.{Answer}
 use Rattle.message_text.specs.declared.Answer.the-variants.{Taken, Refused}
-use Rattle.recorder.specs.State.{formatOf, withReceive, withSend}
-use Rattle.recorder.specs.Outcomes.{Lent, Outcome, ends, queueReady, sendReady, bothReady, eventOf, withQueue, noted, notedIf}
-use Rattle.recorder.specs.Sending.{put, sentMessage, sent, putSaid, textSent, taken, finished, aborted}
+use Rattle.settings.specs.TxMode.{raisesAtTake, raisesAtDone}
+use Rattle.settings.specs.Ranges.{formatOf}
+use Rattle.settings.specs.Binary.{binaryRefusal, sentMessage}
+use Rattle.queue.specs.declared.Receive.{Receive}
+use Rattle.outbox.specs.Outbox.{sending, taking, afterDone, afterAbort}
+use Rattle.outbox.specs.declared.Send.{Send}
+use Rattle.recorder.specs.State.{withReceive, withSend}
+use Rattle.recorder.specs.Outcomes.{Lent, Outcome, ends, queueReady, sendReady, bothReady, withQueue, noted, notedIf}
+use Rattle.recorder.specs.Sending.{put, sent, putSaid, textSent, taken, finished, aborted}
 use Rattle.recorder.specs.declared.Device.{Device}
 
 -- what the sending side is answered and left
@@ -59,12 +61,7 @@ module _ (d : Device) (l : Lent) (r : Receive) (q : List ℕ) where
   pub send-apart : (m : Message) → sendReady d l ≡ true → sendReady other elsewhere ≡ true → sender (sent m d l) ≡ sender (sent m other elsewhere)
   unfolding sent
   send-apart m h g =
-      let f = formatOf (d .shared) (m .header .format) in
-      rw (h, g)
-      (both (isFormat f && modeTakes (d .shared .mode) f) _ _ _ _
-      (both (isBad (rawOf (d .shared .align) f (m .header .id))) _ _ _ _ refl
-      (both (leb (m .header .rtr) 1) _ _ _ _ (both (leb (m .header .dlc) 15) _ _ _ _ (put-apart (sentMessage m d) 0) refl) refl))
-      refl)
+      rw (h, g) (both (eqb (binaryRefusal (d .shared) m) 0) _ _ _ _ (put-apart (sentMessage (d .shared) m) 0) refl)
 
   said-apart : (s : Said) → sender (putSaid s d l) ≡ sender (putSaid s other elsewhere)
   said-apart s = by (s .answer) refl

@@ -4,10 +4,12 @@ use mathlib.Core.Bool.{true, false}
 use mathlib.Core.List.{[]}
 use Prim.Native.Nat.{ℕ}
 use Rattle.records.specs.Messages.{noMessage}
-use Rattle.recorder.specs.State.{goodShared, withShared, withReceive}
-use Rattle.recorder.specs.Outcomes.{Lent, ends, refuses, queueReady, eventOf, withQueue, met}
+use Rattle.records.specs.Raised.{eventOf}
+use Rattle.settings.specs.Ranges.{goodShared}
+use Rattle.settings.specs.declared.Shared.{Shared}
+use Rattle.recorder.specs.State.{withShared, withReceive}
+use Rattle.recorder.specs.Outcomes.{Lent, ends, refuses, queueReady, withQueue, met}
 use Rattle.recorder.specs.Receiving.{changed}
-use Rattle.recorder.specs.declared.Shared.{Shared}
 use Rattle.recorder.specs.declared.Device.{Device}
 use Rattle.recorder.proofs.Meeting.{noted-ends}
 

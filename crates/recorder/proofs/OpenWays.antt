@@ -3,12 +3,12 @@ use mathlib.Core.Path.{_≡_}
 use mathlib.Core.Bool.{true, false}
 use mathlib.Core.List.{[]}
 use lib.ListN.{length}
+use Rattle.settings.specs.declared.Settings.{Settings}
 use Rattle.queue.specs.Queue.{queueFits}
 use Rattle.outbox.specs.Outbox.{sendFits}
 use Rattle.recorder.specs.State.{good, fresh, noDevice}
 use Rattle.recorder.specs.Outcomes.{Lent, ends, refuses}
 use Rattle.recorder.specs.Receiving.{opened}
-use Rattle.recorder.specs.declared.Settings.{Settings}
 
 -- open: open-bad answers 1, open-short and open-short-send (the message table) answer 2, open-good opens
 module _ (s : Settings) (l : Lent) where

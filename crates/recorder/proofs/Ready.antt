@@ -14,12 +14,14 @@ use Rattle.records.specs.Events.{codeOf, holdsFrame, kindOf}
 use Rattle.records.specs.declared.Event.{Event}
 use Rattle.records.specs.declared.Kind.{Kind}
 use Rattle.records.specs.declared.Message.{Message}
+use Rattle.records.specs.Raised.{eventOf}
+use Rattle.settings.specs.Ranges.{goodShared}
 use Rattle.queue.specs.Queue.{queueLimit, goodReceive, queueFits, usable}
 use Rattle.queue.proofs.Laws.{ring-of, judged}
 use Rattle.queue.specs.declared.Receive.{Receive}
 use Rattle.outbox.specs.Outbox.{goodSend}
-use Rattle.recorder.specs.State.{goodShared, good}
-use Rattle.recorder.specs.Outcomes.{Lent, queueReady, eventOf}
+use Rattle.recorder.specs.State.{good}
+use Rattle.recorder.specs.Outcomes.{Lent, queueReady}
 use Rattle.recorder.specs.declared.Device.{Device}
 
 -- a device that is ready for its event table is good, and the table is long enough

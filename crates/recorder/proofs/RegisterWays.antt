@@ -6,10 +6,12 @@ use Prim.Native.Nat.{ℕ}
 use lib.ListN.{length, replicate}
 use borrow.Author.Tests.{eq-eqb, ne-eqb}
 use Rattle.records.specs.Messages.{messageBytes}
-use Rattle.outbox.specs.Outbox.{sendFits, taking, raisesAtTake, raisesAtDone, afterDone, afterAbort}
+use Rattle.records.specs.Raised.{eventOf}
+use Rattle.settings.specs.TxMode.{raisesAtTake, raisesAtDone}
+use Rattle.outbox.specs.Outbox.{sendFits, taking, afterDone, afterAbort}
 use Rattle.outbox.specs.declared.Sent.{Sent}
 use Rattle.recorder.specs.State.{withReceive, withSend}
-use Rattle.recorder.specs.Outcomes.{Lent, ends, refuses, queueReady, eventOf, withQueue, met, noted}
+use Rattle.recorder.specs.Outcomes.{Lent, ends, refuses, queueReady, withQueue, met, noted}
 use Rattle.recorder.specs.Sending.{taken, finished, aborted}
 use Rattle.recorder.specs.declared.Device.{Device}
 

@@ -1,23 +1,22 @@
 -- What each way through send and send_text shows.
-use mathlib.Core.Path.{_≡_, refl, _∙_}
+use mathlib.Core.Path.{_≡_, refl, sym, ap, _∙_}
 use mathlib.Core.Bool.{Bool, true, false}
 use mathlib.Core.List.{List, []}
-use Prim.Native.Nat.{ℕ, _≤_, _<_}
+use Prim.Native.Nat.{ℕ}
 use lib.Dec.{ltb}
-use borrow.Author.Tests.{eq-eqb, ne-eqb, le-leb, lt-leb}
-use Rattle.ids.specs.Ids.{isFormat, rawOf}
-use Rattle.ids.specs.Filters.{modeTakes}
+use borrow.Author.Tests.{eq-eqb, ne-eqb}
 use Rattle.ids.specs.declared.Header.{Header}
-use Rattle.ids.specs.declared.Id.{Id}
-use Rattle.ids.specs.declared.Id.the-variants.{Good, Bad}
-use Rattle.records.specs.Messages.{stored}
 use Rattle.records.specs.declared.Message.{Message}
-use Rattle.outbox.specs.Outbox.{sending, usable}
-use Rattle.outbox.specs.declared.Send.{Send}
 use Rattle.message_text.specs.Reading.{readMessage}
 use Rattle.message_text.specs.declared.Said.{Said}
 use Rattle.message_text.specs.declared.Answer.the-variants.{Taken, Refused}
-use Rattle.recorder.specs.State.{formatOf, withSend}
+use Rattle.settings.specs.Ranges.{formatOf}
+use Rattle.settings.specs.Binary.{binaryRefusal, brought}
+use Rattle.settings.specs.declared.Brought.{Brought}
+use Rattle.settings.proofs.Laws.{brought-number, brought-message}
+use Rattle.outbox.specs.Outbox.{sending, usable}
+use Rattle.outbox.specs.declared.Send.{Send}
+use Rattle.recorder.specs.State.{withSend}
 use Rattle.recorder.specs.Outcomes.{Lent, ends, refuses, sendReady, withTable}
 use Rattle.recorder.specs.Sending.{put, sent, textSent}
 use Rattle.recorder.specs.declared.Device.{Device}
@@ -43,42 +42,26 @@ put-keeps s m t u n e h q = q ∙ by (usable s t) (ltb (s .ring .count) (s .ring
     by true false x y = rw (x, y)
     by false b x y = rw x
 
--- send: send-N is the way that answers N, send-no-format and send-no-mode answer 13, send-put puts the message
+-- send: send-2 answers 2, send-refused the refusal of the message, send-put puts the message brought
 module _ (m : Message) (d : Device) (l : Lent) where
   pub send-2 : sendReady d l ≡ false → sent m d l ≡ refuses 2 d l
   unfolding sent
   send-2 h = rw h
 
-  module _ (ready : sendReady d l ≡ true) (f : ℕ) (e : f ≡ formatOf (d .shared) (m .header .format)) where
-    pub send-no-format : isFormat f ≡ false → sent m d l ≡ refuses 13 d l
+  module _ (ready : sendReady d l ≡ true) (b : Brought) (e : b ≡ brought (d .shared) m) where
+    number-is : b .number ≡ binaryRefusal (d .shared) m
+    number-is = ap (λ (r : Brought). r .number) e ∙ brought-number (d .shared) m
+
+    pub send-refused : (b .number ≡ 0 → ⊥) → sent m d l ≡ refuses (b .number) d l
     unfolding sent
-    send-no-format h = rw (ready, ← e, h)
+    send-refused h = rw (ready, ← number-is, ne-eqb (b .number) 0 h)
 
-    module _ (known : isFormat f ≡ true) where
-      pub send-no-mode : modeTakes (d .shared .mode) f ≡ false → sent m d l ≡ refuses 13 d l
-      unfolding sent
-      send-no-mode h = rw (ready, ← e, known, h)
-
-      module _ (takes-it : modeTakes (d .shared .mode) f ≡ true) (i : Id) (raw : i ≡ rawOf (d .shared .align) f (m .header .id)) where
-        pub send-8 : i ≡ Bad → sent m d l ≡ refuses 8 d l
-        unfolding sent
-        send-8 h = rw (ready, ← e, known, takes-it, ← raw, h)
-
-        module _ (id : ℕ) (h : i ≡ Good id) where
-          pub send-9 : 1 < m .header .rtr → sent m d l ≡ refuses 9 d l
-          unfolding sent
-          send-9 x = rw (ready, ← e, known, takes-it, ← raw, h, lt-leb _ _ x)
-
-          pub send-10 : m .header .rtr ≤ 1 → 15 < m .header .dlc → sent m d l ≡ refuses 10 d l
-          unfolding sent
-          send-10 x y = rw (ready, ← e, known, takes-it, ← raw, h, le-leb _ _ x, lt-leb _ _ y)
-
-          abbrev given : Message
-          given = record { header = record { id = id; format = f; rtr = m .header .rtr; dlc = m .header .dlc }; bytes = m .bytes }
-
-          pub send-put : m .header .rtr ≤ 1 → m .header .dlc ≤ 15 → sent m d l ≡ put (stored given) 0 d l
-          unfolding sent
-          send-put x y = rw (ready, ← e, known, takes-it, ← raw, h, le-leb _ _ x, le-leb _ _ y)
+    pub send-put : b .number ≡ 0 → sent m d l ≡ put (b .message) 0 d l
+    unfolding sent
+    send-put h =
+        let none = sym number-is ∙ h in
+        let stands = ap (λ (r : Brought). r .message) e ∙ brought-message (d .shared) m none in
+        rw (ready, eq-eqb _ 0 none, stands)
 
 -- send_text: text-2 answers 2, text-refused the refusal of the text, text-put puts the message read
 module _ (text : List ℕ) (d : Device) (l : Lent) where

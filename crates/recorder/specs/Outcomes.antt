@@ -3,14 +3,10 @@ use Prim.Native.Nat.{ℕ}
 use mathlib.Core.Path.{_≡_}
 use mathlib.Core.Bool.{Bool, _&&_}
 use mathlib.Core.List.{List, []}
-use lib.ListN.{length, replicate}
-use lib.Dec.{leb}
+use lib.ListN.{length}
 use Rattle.common.specs.Choice.{pick}
-use Rattle.records.specs.Messages.{stored}
-use Rattle.records.specs.Events.{holdsFrame, kindOf}
-use Rattle.records.specs.declared.Message.{Message}
-use Rattle.records.specs.declared.Kind.the-variants.{Other}
 use Rattle.records.specs.declared.Event.{Event}
+use Rattle.digits.specs.declared.Printed.{Printed}
 use Rattle.queue.specs.Queue.{Raising, raising, queueFits}
 use Rattle.outbox.specs.Outbox.{sendFits}
 use Rattle.recorder.specs.State.{good, withReceive}
@@ -19,7 +15,6 @@ use Rattle.recorder.specs.declared.Answer.{Answer}
 use Rattle.recorder.specs.declared.Record.{Record}
 use Rattle.recorder.specs.declared.Taken.{Taken}
 use Rattle.recorder.specs.declared.Through.{Through}
-use Rattle.digits.specs.declared.Printed.{Printed}
 
 -- what a call is lent: the event table, the message table, the output buffer
 pub record Lent : Type 0 where
@@ -46,10 +41,6 @@ ends n v b d l = record { number = n; value = v; bytes = b; device = d; lent = l
 abbrev pub refuses : ℕ → Device → Lent → Outcome
 refuses n d l = ends n 0 [] d l
 
--- the refusals are the numbers 1 to 14
-unfoldable pub isRefusal : ℕ → Bool
-isRefusal n = leb 1 n && leb n 14
-
 -- the tables that a call is lent are as long as their capacities need, and the state is possible: else refusal 2
 abbrev pub queueReady : Device → Lent → Bool
 queueReady d l = good d && queueFits (d .receive) (length (l .queue))
@@ -59,13 +50,6 @@ sendReady d l = good d && sendFits (d .send) (length (l .send))
 
 abbrev pub bothReady : Device → Lent → Bool
 bothReady d l = queueReady d l && sendFits (d .send) (length (l .send))
-
--- the event of a code and a tick: the tick becomes time low, time high is 0; codes 1 to 3 hold the frame as it is stored, other codes ignore it
-unfoldable pub eventOf : ℕ → ℕ → Message → Event
-eventOf code tick m =
-    pick (holdsFrame code)
-    (record { kind = kindOf code (m .header); low = tick; high = 0; lost = 0; bytes = stored m .bytes })
-    (record { kind = Other code; low = tick; high = 0; lost = 0; bytes = replicate 8 0 })
 
 -- the lent tables with another event table, another message table, another buffer
 abbrev pub withQueue : Lent → List ℕ → Lent

@@ -1,23 +1,23 @@
 -- Sending, taking, done and abort: one outcome a call, refusals in the paper's order.
 use Prim.Native.Nat.{ℕ}
-use mathlib.Core.Bool.{Bool, _&&_}
 use mathlib.Core.List.{List, []}
-use lib.ListN.{length, replicate}
-use lib.Dec.{ltb, leb, eqb}
+use lib.ListN.{replicate}
+use lib.Dec.{eqb}
 use Rattle.common.specs.Choice.{pick}
-use Rattle.ids.specs.Ids.{isFormat, rawOf}
-use Rattle.ids.specs.Filters.{modeTakes}
-use Rattle.ids.specs.declared.Header.{Header}
-use Rattle.records.specs.Messages.{stored, messageBytes}
+use Rattle.records.specs.Messages.{messageSize, messageBytes}
+use Rattle.records.specs.Raised.{eventOf}
 use Rattle.records.specs.declared.Message.{Message}
-use Rattle.outbox.specs.Outbox.{Sending, sending, taking, raisesAtTake, raisesAtDone, afterDone, afterAbort}
-use Rattle.outbox.specs.declared.Sent.{Sent}
-use Rattle.message_text.specs.Reading.{isBad, idNumber, readMessage}
+use Rattle.message_text.specs.Reading.{readMessage}
 use Rattle.message_text.specs.declared.Answer.{Answer}
 use Rattle.message_text.specs.declared.Answer.the-variants.{Taken, Refused}
 use Rattle.message_text.specs.declared.Said.{Said}
-use Rattle.recorder.specs.State.{formatOf, withSend}
-use Rattle.recorder.specs.Outcomes.{Lent, Outcome, ends, refuses, queueReady, sendReady, bothReady, eventOf, withTable, noted, notedIf}
+use Rattle.settings.specs.TxMode.{raisesAtTake, raisesAtDone}
+use Rattle.settings.specs.Ranges.{formatOf}
+use Rattle.settings.specs.Binary.{binaryRefusal, sentMessage}
+use Rattle.outbox.specs.Outbox.{Sending, sending, taking, afterDone, afterAbort}
+use Rattle.outbox.specs.declared.Sent.{Sent}
+use Rattle.recorder.specs.State.{withSend}
+use Rattle.recorder.specs.Outcomes.{Lent, Outcome, ends, refuses, queueReady, sendReady, bothReady, withTable, notedIf}
 use Rattle.recorder.specs.declared.Device.{Device}
 
 -- a message is put into the send buffer; beside success it answers a value, beside refusal 5 none
@@ -26,31 +26,13 @@ put m value d l =
     let o : Sending = sending (d .send) m (l .send) in
     pick (eqb (o .number) 0) (ends 0 value [] (withSend d (o .send)) (withTable l (o .table))) (refuses (o .number) d l)
 
--- the message of a binary send: the format, 0 being the default, and the aligned identifier made raw; as it is stored
-abbrev pub sentMessage : Message → Device → Message
-sentMessage m d =
-    let format : ℕ = formatOf (d .shared) (m .header .format) in
-    stored (record {
-      header = record {
-        id = idNumber (rawOf (d .shared .align) format (m .header .id));
-        format = format;
-        rtr = m .header .rtr;
-        dlc = m .header .dlc;
-      };
-      bytes = m .bytes;
-    })
-
 -- a binary send: 2, 13 (format above 2, or extended in mode 0), 8, 9, 10, 5
 unfoldable pub sent : Message → Device → Lent → Outcome
 sent m d l =
-    let format : ℕ = formatOf (d .shared) (m .header .format) in
     pick (sendReady d l)
-    (pick (isFormat format && modeTakes (d .shared .mode) format)
-    (pick (isBad (rawOf (d .shared .align) format (m .header .id))) (refuses 8 d l)
-    (pick (leb (m .header .rtr) 1)
-    (pick (leb (m .header .dlc) 15) (put (sentMessage m d) 0 d l) (refuses 10 d l))
-    (refuses 9 d l)))
-    (refuses 13 d l))
+    (pick (eqb (binaryRefusal (d .shared) m) 0)
+    (put (sentMessage (d .shared) m) 0 d l)
+    (refuses (binaryRefusal (d .shared) m) d l))
     (refuses 2 d l)
 
 -- what a text says is put into the send buffer; beside a refused text the bytes used, 0 on 5
@@ -76,8 +58,8 @@ taken tick d l =
     (pick (eqb (o .number) 0)
     (notedIf (raisesAtTake (d .send .tx)) (eventOf 2 tick (o .send .message))
     (ends 0 0 (messageBytes (o .send .message)) (withSend d (o .send)) l))
-    (ends (o .number) 0 (replicate 16 0) d l))
-    (ends 2 0 (replicate 16 0) d l)
+    (ends (o .number) 0 (replicate messageSize 0) d l))
+    (ends 2 0 (replicate messageSize 0) d l)
 
 -- done empties the register: 2, 4; it raises code 2 if TxMode bits 1 and 2 are set
 unfoldable pub finished : ℕ → Device → Lent → Outcome

@@ -1,30 +1,19 @@
 -- A device's settings and state (01, "Settings", and refusals 1 and 2).
-use Prim.Native.Nat.{ℕ}
 use mathlib.Core.Bool.{Bool, false, _&&_}
-use lib.Dec.{leb, eqb}
-use Rattle.common.specs.Choice.{pick}
 use Rattle.common.specs.Rings.{emptyRing}
-use Rattle.ids.specs.Filters.{modeTakes}
 use Rattle.records.specs.Messages.{noMessage}
+use Rattle.settings.specs.Ranges.{goodShared}
+use Rattle.settings.specs.declared.Shared.{Shared}
+use Rattle.settings.specs.declared.Settings.{Settings}
 use Rattle.queue.specs.Queue.{goodReceive}
 use Rattle.queue.specs.declared.Receive.{Receive}
 use Rattle.outbox.specs.Outbox.{goodSend}
 use Rattle.outbox.specs.declared.Send.{Send}
-use Rattle.recorder.specs.declared.Shared.{Shared}
 use Rattle.recorder.specs.declared.Device.{Device}
-use Rattle.recorder.specs.declared.Settings.{Settings}
-
--- mode 0 or 1, format 0 to 2 but not 2 in mode 0, Align 0 to 3
-unfoldable pub goodShared : Shared → Bool
-goodShared s = leb (s .mode) 1 && leb (s .format) 2 && modeTakes (s .mode) (s .format) && leb (s .align) 3
 
 -- settings and state numbers that a device can have
 unfoldable pub good : Device → Bool
 good d = goodShared (d .shared) && goodReceive (d .receive) && goodSend (d .send)
-
--- format 0 is the channel's default format; where that is 0 as well: standard in mode 0, extended in mode 1
-unfoldable pub formatOf : Shared → ℕ → ℕ
-formatOf s format = pick (eqb format 0) (pick (eqb (s .format) 0) (pick (eqb (s .mode) 0) 1 2) (s .format)) format
 
 -- the device that opening gives: both rings empty, first and pending 0, register empty
 abbrev pub fresh : Settings → Device

@@ -1,10 +1,10 @@
 // Changes of setting.
 use crate::Answer;
 use crate::Device;
-use crate::Shared;
 use crate::state;
 use ids::Filter;
 use queue::Receive;
+use settings::Shared;
 ghost use mathlib.Core.Path.{_≡_};
 ghost use mathlib.Core.List.{[]};
 ghost use Rattle.recorder.specs.Outcomes.{lends, answerOf, QueueMet};
@@ -17,10 +17,10 @@ fn change(d: Device, s: Shared, tick: u32, queue: &mut [u8]) -> Answer
     if !state::queue_ready(d, queue.len()) {
         return state::answer(2, 0, d);
     }
-    if !state::is_shared(s) {
+    if !settings::ranges::is_shared(s) {
         return state::answer(1, 0, d);
     }
-    let e = state::event_of(5, tick, records::messages::no_message());
+    let e = records::raised::event_of(5, tick, records::messages::no_message());
     let next = state::note(state::with_shared(d, s), e, queue);
     state::answer(0, 0, next)
 }

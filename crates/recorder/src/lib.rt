@@ -9,33 +9,13 @@ mod state;
 
 use outbox::Send;
 use queue::Receive;
-
-// What all channels of a device share.
-pub struct Shared {
-    pub mode: u32,
-    pub format: u32,
-    pub align: u32,
-}
+use settings::Shared;
 
 // The whole state of a device, by value.
 pub struct Device {
     pub shared: Shared,
     pub receive: Receive,
     pub send: Send,
-}
-
-// What opening is given: MaskActive is `active`, the event mask `events`, TxMode `tx`; then the two capacities.
-pub struct Settings {
-    pub mode: u32,
-    pub format: u32,
-    pub align: u32,
-    pub active: u32,
-    pub code: u32,
-    pub mask: u32,
-    pub events: u32,
-    pub queue: u32,
-    pub tx: u32,
-    pub buffer: u32,
 }
 
 // The paper's number, its value (a length, the bytes used, how many were purged) and the device after the call.

@@ -1,13 +1,13 @@
 // Opening a device.
 use crate::Answer;
 use crate::Device;
-use crate::Settings;
-use crate::Shared;
 use crate::state;
 use common::Ring;
 use ids::Filter;
 use outbox::Send;
 use queue::Receive;
+use settings::Settings;
+use settings::Shared;
 ghost use mathlib.Core.Path.{_≡_};
 ghost use mathlib.Core.List.{[]};
 ghost use Rattle.recorder.specs.State.{fresh, noDevice};

@@ -50,14 +50,14 @@ pub fn take(d: Device, tick: u32, send: &[u8], queue: &mut [u8]) -> Taken
     let m = next.message;
     let b = bytes_of(m);
     let moved = state::with_send(d, next);
-    if !outbox::register::raises_at_take(channel.tx) {
+    if !settings::txmode::raises_at_take(channel.tx) {
         return Taken {
             number: 0,
             bytes: b,
             device: moved,
         };
     }
-    let after = state::note(moved, state::event_of(2, tick, m), queue);
+    let after = state::note(moved, records::raised::event_of(2, tick, m), queue);
     Taken {
         number: 0,
         bytes: b,
@@ -78,13 +78,13 @@ pub fn done(d: Device, tick: u32, queue: &mut [u8]) -> Answer
     }
     let m = channel.message;
     let emptied = state::with_send(d, outbox::register::after_done(channel));
-    if !outbox::register::raises_at_done(channel.tx) {
+    if !settings::txmode::raises_at_done(channel.tx) {
         return state::answer(0, 0, emptied);
     }
     state::answer(
         0,
         0,
-        state::note(emptied, state::event_of(2, tick, m), queue),
+        state::note(emptied, records::raised::event_of(2, tick, m), queue),
     )
 }
 
@@ -106,6 +106,6 @@ pub fn abort(d: Device, tick: u32, queue: &mut [u8]) -> Answer
     state::answer(
         0,
         purged,
-        state::note(emptied, state::event_of(3, tick, m), queue),
+        state::note(emptied, records::raised::event_of(3, tick, m), queue),
     )
 }

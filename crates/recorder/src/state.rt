@@ -1,42 +1,24 @@
-// A device's state: is it possible, and with which part exchanged; the event that a call raises.
+// A device's state: is it possible, and with which part exchanged.
 use crate::Answer;
 use crate::Device;
-use crate::Shared;
 use outbox::Send;
 use queue::Receive;
 use records::Event;
-use records::Kind;
-use records::Message;
+use settings::Shared;
 ghost use mathlib.Core.Path.{_≡_};
 ghost use mathlib.Core.Bool.{true, _&&_};
 ghost use Rattle.records.specs.Events.{codeOf};
 ghost use Rattle.queue.specs.Queue.{queueFits, usable, raising};
 ghost use Rattle.outbox.specs.Outbox.{sendFits};
-ghost use Rattle.recorder.specs.State.{goodShared, good, withShared, withReceive, withSend};
-ghost use Rattle.recorder.specs.Outcomes.{answers, eventOf, NoteMet};
-
-// Mode, format and Align in their ranges.
-pub fn is_shared(s: Shared) -> bool
-    ensures { λ ok. ⌜ ok ≡ goodShared s ⌝ }
-{
-    if 1 < s.mode {
-        return false;
-    }
-    if 2 < s.format {
-        return false;
-    }
-    if !ids::acceptance::mode_takes(s.mode, s.format) {
-        return false;
-    }
-    s.align <= 3
-}
+ghost use Rattle.recorder.specs.State.{good, withShared, withReceive, withSend};
+ghost use Rattle.recorder.specs.Outcomes.{answers, NoteMet};
 
 // Settings and state numbers that a device can have.
 pub fn is_good(d: Device) -> bool
     ensures { λ ok. ⌜ ok ≡ good d ⌝ }
 {
     let shared = d.shared;
-    if !is_shared(shared) {
+    if !settings::ranges::is_shared(shared) {
         return false;
     }
     let receive = d.receive;
@@ -113,33 +95,6 @@ pub fn answer(number: u32, value: usize, d: Device) -> Answer
         number: number,
         value: value,
         device: d,
-    }
-}
-
-// The event of a code and a tick, with the frame of codes 1 to 3.
-pub fn event_of(code: u32, tick: u32, m: Message) -> Event
-    ensures { λ e. ⌜ e ≡ eventOf code tick m ⌝ }
-{
-    if records::events::holds_frame(code) {
-        let kept = records::messages::stored(m);
-        let k = records::events::kind_of(code, kept.header);
-        let b = kept.bytes;
-        return Event {
-            kind: k,
-            low: tick,
-            high: 0,
-            lost: 0,
-            bytes: b,
-        };
-    }
-    let k = Kind::Other(code);
-    let b = [0u8; 8];
-    Event {
-        kind: k,
-        low: tick,
-        high: 0,
-        lost: 0,
-        bytes: b,
     }
 }
 

@@ -12,6 +12,10 @@ use Rattle.ids.specs.declared.Header.{Header}
 use Rattle.records.specs.declared.Message.{Message}
 use Rattle.records.specs.declared.JudgedMessage.{JudgedMessage}
 
+-- a message is 16 bytes
+abbrev pub messageSize : ℕ
+messageSize = 16
+
 -- a frame as it is stored: bytes not carried are stored as zero
 unfoldable pub stored : Message → Message
 stored m = record {

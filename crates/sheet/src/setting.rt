@@ -1,8 +1,8 @@
 // The device of a case, and its frames.
 use ids::Header;
 use recorder::Device;
-use recorder::Settings;
 use records::Message;
+use settings::Settings;
 
 // Mode 0 and MaskActive 0, every event let through, room for one message.
 fn settings(align: u32, code: u32, mask: u32, capacity: u32) -> Settings {

@@ -1,4 +1,4 @@
-use Rattle.recorder.specs.Outcomes.{isRefusal}
+use Rattle.common.specs.Refusals.{isRefusal}
 use borrow.Author.Tests.{le-leb, lt-leb}
 use Rattle.board.proofs.kept.is_refusal.Statement.{statement}
 use Rattle.board.proofs.kept.is_refusal.Tie as tie

@@ -5,7 +5,7 @@ use Rattle.common.proofs.Bools.{said, denied}
 use Rattle.outbox.proofs.Laws.{ring-of, fits-table, bad-take, short-take, occupied, nothing, damaged, moved}
 use Rattle.common.proofs.RingFacts.{slot-inside}
 use lib.ListN.{length}
-use Rattle.outbox.specs.Outbox.{messageSize}
+use Rattle.records.specs.Messages.{messageSize}
 use borrow.Author.Needs.{needs}
 use Rattle.outbox.proofs.register.take.Statement.{statement}
 use Rattle.outbox.proofs.register.take.Tie as tie

@@ -6,8 +6,7 @@ use Rattle.outbox.proofs.Laws.{ring-of, fits-table, met-by, bad-channel
 use Rattle.common.proofs.RingFacts.{slot-inside, store-part}
 use Prim.Native.Nat.{ℕ, _*_}
 use lib.ListN.{length}
-use Rattle.outbox.specs.Outbox.{messageSize}
-use Rattle.records.specs.Messages.{messageBytes}
+use Rattle.records.specs.Messages.{messageSize, messageBytes}
 use borrow.Author.Needs.{needs}
 use Rattle.outbox.proofs.sending.put.Statement.{statement}
 use Rattle.outbox.proofs.sending.put.Tie as tie

@@ -1,0 +1,14 @@
+pub mod Choices
+pub mod Recorded
+pub mod Lasting
+pub mod Posting
+pub mod Sum
+pub mod Larger
+pub mod Numbers
+pub mod Sound
+pub mod Harmless
+pub mod Usual
+pub mod Order
+pub mod Mail
+pub mod Gaps
+pub mod Examples

@@ -1,0 +1,95 @@
+-- Raising, the changes of mode and format, and the prints answer and leave what the model says.
+use Prim.Native.Nat.{ℕ}
+use mathlib.Core.Path.{_≡_, refl}
+use mathlib.Core.Bool.{true}
+use mathlib.Core.List.{List, []}
+use native.Mathlib.Omega.{arith}
+use lib.ListN.{length}
+use lib.Dec.{eqb}
+use borrow.Author.Tests.{eqb-true}
+use Rattle.common.proofs.Choices.{by-test}
+use Rattle.records.specs.Messages.{noMessage}
+use Rattle.records.specs.Events.{holdsFrame}
+use Rattle.records.specs.Raised.{eventOf, frameRefusal}
+use Rattle.records.specs.declared.Message.{Message}
+use Rattle.settings.specs.Ranges.{goodShared}
+use Rattle.settings.specs.declared.Shared.{Shared}
+use Rattle.queue.specs.Queue.{queueFits}
+use Rattle.recorder.specs.State.{good, withShared}
+use Rattle.recorder.specs.Outcomes.{Lent, lends, ends}
+use Rattle.recorder.specs.Receiving.{raised, changed}
+use Rattle.recorder.specs.Printing.{linePrinted}
+use Rattle.recorder.specs.declared.Device.{Device}
+use Rattle.model.specs.Said.{says}
+use Rattle.model.specs.Inbox.{Inbox}
+use Rattle.model.specs.Outbox.{Outbox}
+use Rattle.model.specs.Box.{box, steps, DeviceCall, raise, setMode, setFormat, changes, does}
+use Rattle.model.specs.Box.{PrintCall, printMessageRecord, printEventRecord, printMessage, printed, shows}
+use Rattle.model.specs.Box.{Call, onDevice, onAlign, step}
+use Rattle.promises.specs.Typed.{Word, TypedDevice}
+use Rattle.promises.specs.Calls.{outcome}
+use Rattle.promises.specs.Stands.{Stands}
+use Rattle.promises.proofs.Sound.{event-sound}
+use Rattle.promises.proofs.Agreeing.{arrival-is, device-possible, Agrees, agree-ways, notes, told}
+
+module _ (d : Device) (q t out : List ℕ) (i : ℕ) (b : Inbox) (o : Outbox) (h : Stands d q t (box (d .shared) b o)) where
+  abbrev l : Lent
+  l = lends q t out
+
+  -- what is asked of every call
+  abbrev Doing : Call → Type 0
+  Doing x = Agrees (outcome x d l) out (step i (length out) x (box (d .shared) b o))
+
+  possible : good d ≡ true
+  possible = device-possible d q t (box (d .shared) b o) h
+
+  long : queueFits (d .receive) (length q) ≡ true
+  long = h .inbox .events .long
+
+  -- a raise answers what its event meets
+  raise-is : (code tick : ℕ) (m : Message) → TypedDevice (raise code tick m) → Doing (onDevice (raise code tick m))
+  unfolding outcome raised step does
+  raise-is code tick m ty =
+      rw (possible, long)
+      (agree-ways (eqb (frameRefusal code m) 0) out
+      (λ z.
+      let s = event-sound tick m (ty .1) (ty .2 .eight) code (ty .0) (eqb-true (frameRefusal code m) 0 z) in
+      let e = arrival-is (d .receive) q b (h .inbox) (d .shared) i (eventOf code tick m) s in (
+        record { number = e .0; value = refl; bytes = refl; line = refl },
+        record { possible = h .possible; shared = refl; inbox = e .1; outbox = h .outbox },
+      ))
+      (λ z. (told (says (frameRefusal code m)) d q t out, h)))
+
+  -- a change of the shared settings
+  change-is : (s : Shared) (tick : ℕ) → Word tick → Agrees (changed s tick d l) out (changes s tick i (box (d .shared) b o))
+  unfolding changed
+  change-is s tick ty =
+      rw (possible, long)
+      (agree-ways (goodShared s) out
+      (λ z.
+      notes (eventOf 5 tick noMessage) i (ends 0 0 [] (withShared d s) l) out (says 0) (box s b o)
+      (event-sound tick noMessage ty refl 5 (omega arith) (unfold holdsFrame in refl))
+      (told (says 0) (withShared d s) q t out, record { possible = z; shared = refl; inbox = h .inbox; outbox = h .outbox }))
+      (λ z. (told (says 1) d q t out, h)))
+
+  -- every call on the device
+  pub device-agrees : (x : DeviceCall) → TypedDevice x → Doing (onDevice x)
+  unfolding outcome step does
+  device-agrees (raise code tick m) ty = raise-is code tick m ty
+  device-agrees (setMode mode tick) ty =
+      change-is (record { mode = mode; format = d .shared .format; align = d .shared .align }) tick (ty .1)
+  device-agrees (setFormat format tick) ty =
+      change-is (record { mode = d .shared .mode; format = format; align = d .shared .align }) tick (ty .1)
+
+  -- a line, or its refusal
+  print-is : (n : ℕ) (line : List ℕ) → Agrees (linePrinted n line d l) out (steps (printed n line) (box (d .shared) b o))
+  unfolding linePrinted
+  print-is n line =
+      rw possible (by-test (eqb n 0) (λ z. rw z (told _ _ _ _ _, h)) (λ z. rw z (told (says n) d q t out, h)))
+
+  -- every call that prints
+  pub print-agrees : (x : PrintCall) → Doing (onAlign x)
+  unfolding outcome step shows
+  print-agrees (printMessageRecord s) = print-is _ _
+  print-agrees (printEventRecord s) = print-is _ _
+  print-agrees (printMessage m) = print-is _ _

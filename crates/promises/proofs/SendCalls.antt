@@ -1,0 +1,261 @@
+-- The calls on a send channel answer and leave what the model says.
+use Prim.Native.Nat.{ℕ}
+use mathlib.Core.Path.{_≡_, refl, sym, ap, _∙_}
+use mathlib.Core.Bool.{true, false}
+use mathlib.Core.List.{List, [], _∷_, _++_, map}
+use mathlib.Core.Option.{Option, none, some}
+use native.Mathlib.Omega.{arith}
+use lib.ListN.{length, replicate}
+use lib.Dec.{ltb, eqb}
+use borrow.Author.Tests.{eq-eqb, ne-eqb, eqb-true}
+use Rattle.common.specs.Choice.{pick}
+use Rattle.common.proofs.Choices.{by-test}
+use Rattle.records.specs.Messages.{messageSize, messageBytes}
+use Rattle.records.specs.Raised.{eventOf}
+use Rattle.records.specs.declared.Message.{Message}
+use Rattle.records.proofs.RoundTrip.{message-bytes-length}
+use Rattle.message_text.specs.Reading.{readMessage}
+use Rattle.message_text.proofs.Cases.{read-is}
+use Rattle.message_text.proofs.Taken.{taken-good}
+use Rattle.settings.specs.Ranges.{formatOf}
+use Rattle.settings.specs.TxMode.{raisesAtTake, raisesAtDone}
+use Rattle.settings.specs.Binary.{binaryRefusal, sentMessage}
+use Rattle.queue.specs.Queue.{queueFits}
+use Rattle.outbox.specs.Outbox.{sendLimit, sendFits, usable, sending, taking, afterTake, afterDone, afterAbort}
+use Rattle.outbox.specs.Outbox as Wire
+use Rattle.outbox.specs.declared.Send.{Send}
+use Rattle.recorder.specs.State.{good, withSend}
+use Rattle.recorder.specs.Outcomes.{Lent, lends, ends, notedIf}
+use Rattle.recorder.specs.Sending.{put, sent, putSaid, textSent, taken, finished, aborted}
+use Rattle.recorder.specs.declared.Device.{Device}
+use Rattle.model.specs.Said.{Said, says, saysZeros, counts, hands}
+use Rattle.model.specs.Inbox.{Inbox}
+use Rattle.model.specs.Outbox.{took, purged, Outbox, holding, SendCall, send, sendText, take, done, abort}
+use Rattle.model.specs.Outbox.{Posted, posted, putText, takes, takesInto, finishes, aborts, posts}
+use Rattle.model.specs.Outbox as Model
+use Rattle.model.specs.Box.{box, Step, steps, noted, onSend, step}
+use Rattle.promises.specs.Typed.{Framed, Word, TypedSend}
+use Rattle.promises.specs.Calls.{outcome}
+use Rattle.promises.specs.Stands.{Holds, SoundMessage, Register, Sends, Stands}
+use Rattle.promises.proofs.Holding.{all-snoc, holds-count, holds-more, holds-rest, holds-none}
+use Rattle.promises.proofs.Sound.{message-is, message-event-sound, sent-sound}
+use Rattle.promises.proofs.Agreeing.{send-possible, device-possible, Agrees, goes-first, goes-second, notes, notes-if, told}
+
+-- a step of the box that a send call makes
+abbrev Mailed : Device → ℕ → Inbox → Posted → Step
+Mailed d i b p = steps (p .said) (box (d .shared) (noted (d .shared) i (p .raises) b) (p .outbox))
+
+module _ (d : Device) (q t out : List ℕ) (i : ℕ) (b : Inbox) (o : Outbox) (h : Stands d q t (box (d .shared) b o)) where
+  abbrev l : Lent
+  l = lends q t out
+
+  -- what is asked of every call
+  abbrev Doing : SendCall → Type 0
+  Doing x = Agrees (outcome (onSend x) d l) out (step i (length out) (onSend x) (box (d .shared) b o))
+
+  possible : good d ≡ true
+  possible = device-possible d q t (box (d .shared) b o) h
+
+  long : queueFits (d .receive) (length q) ≡ true
+  long = h .inbox .events .long
+
+  room : sendFits (d .send) (length t) ≡ true
+  room = h .outbox .messages .long
+
+  ready : usable (d .send) t ≡ true
+  ready = rw (send-possible (d .send) t o (h .outbox), room)
+
+  count-is : d .send .ring .count ≡ length (o .buffer)
+  count-is = holds-count messageBytes messageSize sendLimit (d .send .ring) t (o .buffer) (h .outbox .messages)
+
+  -- the buffer has room where the list has
+  room-is : ltb (d .send .ring .count) (d .send .ring .capacity) ≡ ltb (length (o .buffer)) (o .places)
+  room-is = λ j. ltb (count-is j) (h .outbox .places j)
+
+  -- another send channel over the same tables, or over another message table
+  with-send : (c : Send) (u : List ℕ) (p : Outbox) → Sends c u p → Stands (withSend d c) q u (box (d .shared) b p)
+  with-send c u p s = record { possible = h .possible; shared = refl; inbox = h .inbox; outbox = s }
+
+  -- ---- sending
+
+  -- a message is put behind the newest, beside a value, or there is no place
+  put-is : (m : Message) (v : ℕ) → SoundMessage m → Agrees (put m v d l) out (Mailed d i b (Model.put (counts v) m o))
+  unfolding put sending
+  put-is m v s =
+      rw ready
+      (by-test (ltb (d .send .ring .count) (d .send .ring .capacity))
+      (λ z. rw (z, sym room-is ∙ z) (
+        told _ _ _ _ _,
+        with-send _ _ _
+            (record {
+              possible = h .outbox .possible;
+              tx = h .outbox .tx;
+              places = h .outbox .places;
+              messages =
+                  holds-more messageBytes messageSize sendLimit (d .send .ring) t (o .buffer) m (h .outbox .messages) z
+                  (message-bytes-length m (s .eight));
+              sound = all-snoc SoundMessage (o .sent) m (h .outbox .sound) s;
+              waits = all-snoc SoundMessage (o .buffer) m (h .outbox .waits) s;
+              register = h .outbox .register;
+            }),
+      ))
+      (λ z. rw (z, sym room-is ∙ z) (told (says 5) d q t out, h)))
+
+  -- a binary send
+  send-is : (m : Message) → Framed m → Doing (send m)
+  unfolding outcome sent step posts
+  send-is m f =
+      let n = binaryRefusal (d .shared) m in
+      rw (possible, room)
+      (by-test (eqb n 0)
+      (λ z. rw z (put-is (sentMessage (d .shared) m) 0 (sent-sound (d .shared) m f (eqb-true n 0 z))))
+      (λ z. rw z (told (says n) d q t out, h)))
+
+  -- a text send
+  text-is : (text : List ℕ) → Doing (sendText text)
+  unfolding outcome textSent step posts
+  text-is text =
+      let align = d .shared .align in
+      let f = formatOf (d .shared) (d .shared .format) in
+      rw (possible, room)
+      (read-is (λ a. readMessage align f text ≡ a → Agrees (putSaid a d l) out (Mailed d i b (putText a o))) align f text
+      (λ e. (told (says 6) d q t out, h))
+      (λ n r e. (told _ _ _ _ _, h))
+      (λ facts e.
+      let g = taken-good align f text e in
+      put-is _ _ (record { eight = g .1; bytes = g .2; whole = g .0 }))
+      refl)
+
+  -- ---- the register
+
+  taking-5 : d .send .held ≡ true → taking (d .send) t ≡ Wire.sent 5 (d .send)
+  unfolding taking
+  taking-5 e = rw (ready, e)
+
+  taking-4 : d .send .held ≡ false → o .buffer ≡ [] → taking (d .send) t ≡ Wire.sent 4 (d .send)
+  unfolding taking
+  taking-4 e n = rw (ready, e, eq-eqb (d .send .ring .count) 0 (count-is ∙ ap length n))
+
+  module _ (m : Message) (rest : List Message) (e : o .buffer ≡ m ∷ rest) where
+    first : SoundMessage m
+    first = (rw e at (h .outbox .waits)) .0
+
+    behind : Holds messageBytes messageSize sendLimit (d .send .ring) t (m ∷ rest)
+    behind = rw e at (h .outbox .messages)
+
+    oldest-is : Wire.oldest (d .send) t ≡ messageBytes m
+    oldest-is = holds-rest messageBytes messageSize sendLimit (d .send .ring) t m rest behind .0
+
+    taking-0 : d .send .held ≡ false → taking (d .send) t ≡ Wire.sent 0 (afterTake (d .send) m)
+    unfolding taking
+    taking-0 z =
+        rw (ready, z, ne-eqb (d .send .ring .count) 0 (λ y. omega (arith, count-is, ap length e)), oldest-is)
+        (rw (message-is m first .0, message-is m first .1))
+
+    after-take : Sends (afterTake (d .send) m) t (holding o rest (some m) (o .sent) (o .gone ++ took m ∷ []))
+    after-take = record {
+      possible = h .outbox .possible;
+      tx = h .outbox .tx;
+      places = h .outbox .places;
+      messages = holds-rest messageBytes messageSize sendLimit (d .send .ring) t m rest behind .1;
+      sound = h .outbox .sound;
+      waits = (rw e at (h .outbox .waits)) .1;
+      register = (refl, refl, first);
+    }
+
+  -- a take
+  take-is : (tick : ℕ) → Word tick → Doing (take tick)
+  unfolding outcome taken step posts
+  take-is tick ty = rw (possible, long, room) (by (o .register) (h .outbox .register))
+    where
+      Result : Posted → Type 0
+      Result p =
+          Agrees
+          (pick (eqb (taking (d .send) t .number) 0)
+          (notedIf (raisesAtTake (d .send .tx)) (eventOf 2 tick (taking (d .send) t .send .message))
+          (ends 0 0 (messageBytes (taking (d .send) t .send .message)) (withSend d (taking (d .send) t .send)) l))
+          (ends (taking (d .send) t .number) 0 (replicate messageSize 0) d l))
+          out (Mailed d i b p)
+
+      waits : (ms : List Message) → d .send .held ≡ false → o .buffer ≡ ms → Result (takes tick ms o)
+      waits [] z e = rw (taking-4 z e) (told (saysZeros messageSize 4) d q t out, h)
+      waits (m ∷ rest) z e =
+          rw (taking-0 m rest e z)
+          (notes-if (raisesAtTake (d .send .tx)) (raisesAtTake (o .tx)) (rw (h .outbox .tx)) (eventOf 2 tick m) i _ out (hands (messageBytes m)) _
+          (message-event-sound tick m ty (first m rest e) 2 (omega arith))
+          (told _ _ _ _ _, with-send _ t _ (after-take m rest e)))
+
+      by : (r : Option Message) → Register (d .send .held) (d .send .message) r → Result (takesInto r tick o)
+      by none z = waits (o .buffer) (z .0) refl
+      by (some m) r = rw (taking-5 (r .0)) (told (saysZeros messageSize 5) d q t out, h)
+
+  -- a done
+  done-is : (tick : ℕ) → Word tick → Doing (done tick)
+  unfolding outcome finished step posts
+  done-is tick ty = rw (possible, long) (by (o .register) (h .outbox .register))
+    where
+      empty : Sends (afterDone (d .send)) t (holding o (o .buffer) none (o .sent) (o .gone))
+      empty = record {
+        possible = h .outbox .possible;
+        tx = h .outbox .tx;
+        places = h .outbox .places;
+        messages = h .outbox .messages;
+        sound = h .outbox .sound;
+        waits = h .outbox .waits;
+        register = (refl, refl);
+      }
+
+      by : (r : Option Message) → Register (d .send .held) (d .send .message) r
+          → Agrees
+          (pick (d .send .held)
+          (notedIf (raisesAtDone (d .send .tx)) (eventOf 2 tick (d .send .message)) (ends 0 0 [] (withSend d (afterDone (d .send))) l))
+          (ends 4 0 [] d l))
+          out (Mailed d i b (finishes r tick o))
+      by none z = goes-second (d .send .held) out _ _ (z .0) (told (says 4) d q t out, h)
+      by (some m) r =
+          goes-first (d .send .held) out _ _ (r .0)
+          (rw (r .1)
+          (notes-if (raisesAtDone (d .send .tx)) (raisesAtDone (o .tx)) (rw (h .outbox .tx)) (eventOf 2 tick m) i _ out (says 0) _
+          (message-event-sound tick m ty (r .2) 2 (omega arith))
+          (told _ _ _ _ _, with-send _ t _ empty)))
+
+  -- an abort
+  abort-is : (tick : ℕ) → Word tick → Doing (abort tick)
+  unfolding outcome aborted step posts
+  abort-is tick ty = rw (possible, long) (by (o .register) (h .outbox .register))
+    where
+      after : Outbox
+      after = holding o [] none (o .sent) (o .gone ++ map purged (o .buffer))
+
+      purge : Agrees (ends 0 (d .send .ring .count) [] (withSend d (afterAbort (d .send))) l) out
+          (steps (counts (length (o .buffer))) (box (d .shared) b after))
+      purge = (
+        record { number = refl; value = count-is; bytes = refl; line = refl },
+        with-send _ t _
+            (record {
+              possible = h .outbox .possible;
+              tx = h .outbox .tx;
+              places = h .outbox .places;
+              messages = holds-none messageBytes messageSize sendLimit (d .send .ring) t (o .buffer) (h .outbox .messages);
+              sound = h .outbox .sound;
+              waits = tt;
+              register = (refl, refl);
+            }),
+      )
+
+      by : (r : Option Message) → Register (d .send .held) (d .send .message) r
+          → Agrees
+          (notedIf (d .send .held) (eventOf 3 tick (d .send .message)) (ends 0 (d .send .ring .count) [] (withSend d (afterAbort (d .send))) l))
+          out (Mailed d i b (posted (counts (length (o .buffer))) after (aborts r tick)))
+      by none z = goes-second (d .send .held) out _ _ (z .0) purge
+      by (some m) r =
+          goes-first (d .send .held) out _ _ (r .0)
+          (rw (r .1) (notes (eventOf 3 tick m) i _ out _ _ (message-event-sound tick m ty (r .2) 3 (omega arith)) purge))
+
+  -- every call
+  pub send-agrees : (x : SendCall) → TypedSend x → Doing x
+  send-agrees (send m) ty = send-is m ty
+  send-agrees (sendText text) ty = text-is text
+  send-agrees (take tick) ty = take-is tick ty
+  send-agrees (done tick) ty = done-is tick ty
+  send-agrees (abort tick) ty = abort-is tick ty

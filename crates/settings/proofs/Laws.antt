@@ -1,0 +1,81 @@
+-- What each way through TxMode's test and through a binary message shows.
+use mathlib.Core.Path.{_≡_, refl, sym}
+use mathlib.Core.Logic.{_⊎_, inl, inr, ⊎-elim}
+use mathlib.Core.Bool.{true, false}
+use Prim.Native.Nat.{ℕ, _≤_, _<_}
+use lib.Dec.{eqb}
+use borrow.Author.Tests.{eqb-true, eq-eqb, ne-eqb, le-leb, lt-leb}
+use Rattle.common.proofs.Choices.{pick-is}
+use Rattle.ids.specs.Ids.{isFormat, rawOf}
+use Rattle.ids.specs.Filters.{modeTakes}
+use Rattle.ids.specs.declared.Id.{Id}
+use Rattle.ids.specs.declared.Id.the-variants.{Good, Bad}
+use Rattle.records.specs.Messages.{stored}
+use Rattle.records.specs.declared.Message.{Message}
+use Rattle.settings.specs.TxMode.{goodTx}
+use Rattle.settings.specs.Binary.{sentFormat, binaryRefusal, sentMessage, notBrought, brought}
+use Rattle.settings.specs.declared.Shared.{Shared}
+use Rattle.settings.specs.declared.Brought.{Brought}
+
+-- ---- TxMode
+
+-- one of the four keys of the code's match
+pub tx-good : (tx : ℕ) → (tx ≡ 1) ⊎ ((tx ≡ 3) ⊎ ((tx ≡ 5) ⊎ (tx ≡ 7))) → true ≡ goodTx tx
+unfolding goodTx
+tx-good tx = ⊎-elim (λ e. rw e) (⊎-elim (λ e. rw e) (⊎-elim (λ e. rw e) (λ e. rw e)))
+
+-- none of them
+pub tx-bad : (tx : ℕ) → ((tx ≡ 1) ⊎ ((tx ≡ 3) ⊎ ((tx ≡ 5) ⊎ (tx ≡ 7))) → ⊥) → false ≡ goodTx tx
+unfolding goodTx
+tx-bad tx h =
+    let f = ne-eqb tx 5 (λ e. h (inr (inr (inl e)))) in
+    let g = ne-eqb tx 7 (λ e. h (inr (inr (inr e)))) in
+    simp (ne-eqb tx 1 (λ e. h (inl e)), ne-eqb tx 3 (λ e. h (inr (inl e))), f, g)
+
+-- ---- a binary message: bring-N is the way that answers N, no-format and no-mode answer 13, kept stores the message
+module _ (s : Shared) (m : Message) (r : Brought) (f : ℕ) (e : f ≡ sentFormat s m) where
+  pub no-format : isFormat f ≡ false → r ≡ notBrought 13 → r ≡ brought s m
+  unfolding brought binaryRefusal
+  no-format h q = rw (← e, h) q
+
+  module _ (known : isFormat f ≡ true) where
+    pub no-mode : modeTakes (s .mode) f ≡ false → r ≡ notBrought 13 → r ≡ brought s m
+    unfolding brought binaryRefusal
+    no-mode h q = rw (← e, known, h) q
+
+    module _ (takes-it : modeTakes (s .mode) f ≡ true) (i : Id) (raw : i ≡ rawOf (s .align) f (m .header .id)) where
+      pub bring-8 : i ≡ Bad → r ≡ notBrought 8 → r ≡ brought s m
+      unfolding brought binaryRefusal
+      bring-8 h q = rw (← e, known, takes-it, ← raw, h) q
+
+      module _ (id : ℕ) (h : i ≡ Good id) where
+        pub bring-9 : 1 < m .header .rtr → r ≡ notBrought 9 → r ≡ brought s m
+        unfolding brought binaryRefusal
+        bring-9 x q = rw (← e, known, takes-it, ← raw, h, lt-leb _ _ x) q
+
+        pub bring-10 : m .header .rtr ≤ 1 → 15 < m .header .dlc → r ≡ notBrought 10 → r ≡ brought s m
+        unfolding brought binaryRefusal
+        bring-10 x y q = rw (← e, known, takes-it, ← raw, h, le-leb _ _ x, lt-leb _ _ y) q
+
+        abbrev given : Message
+        given = record {
+          header = record { id = id; format = f; rtr = m .header .rtr; dlc = m .header .dlc };
+          bytes = m .bytes;
+        }
+
+        pub kept : m .header .rtr ≤ 1 → m .header .dlc ≤ 15 → r ≡ record { number = 0; message = stored given }
+            → r ≡ brought s m
+        unfolding brought binaryRefusal
+        kept x y q = rw (← e, known, takes-it, ← raw, h, le-leb _ _ x, le-leb _ _ y) q
+
+-- ---- what is brought: the refusal's number, and beside 0 the message to store
+module _ (s : Shared) (m : Message) where
+  pub brought-number : brought s m .number ≡ binaryRefusal s m
+  unfolding brought
+  brought-number =
+      pick-is (λ (r : Brought). r .number ≡ binaryRefusal s m) (eqb (binaryRefusal s m) 0)
+      (λ h. sym (eqb-true (binaryRefusal s m) 0 h)) (λ h. refl)
+
+  pub brought-message : binaryRefusal s m ≡ 0 → brought s m .message ≡ sentMessage s m
+  unfolding brought
+  brought-message h = rw (eq-eqb _ 0 h)

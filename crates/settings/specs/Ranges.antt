@@ -1,0 +1,15 @@
+-- What all channels of a device share, in range or not; the format that 0 means (01, "Settings").
+use Prim.Native.Nat.{ℕ}
+use mathlib.Core.Bool.{Bool, _&&_}
+use lib.Dec.{leb, eqb}
+use Rattle.common.specs.Choice.{pick}
+use Rattle.ids.specs.Filters.{modeTakes}
+use Rattle.settings.specs.declared.Shared.{Shared}
+
+-- mode 0 or 1, format 0 to 2 but not 2 in mode 0, Align 0 to 3
+unfoldable pub goodShared : Shared → Bool
+goodShared s = leb (s .mode) 1 && leb (s .format) 2 && modeTakes (s .mode) (s .format) && leb (s .align) 3
+
+-- format 0 is the channel's default format; where that is 0 as well: standard in mode 0, extended in mode 1
+unfoldable pub formatOf : Shared → ℕ → ℕ
+formatOf s format = pick (eqb format 0) (pick (eqb (s .format) 0) (pick (eqb (s .mode) 0) 1 2) (s .format)) format

@@ -1,0 +1,58 @@
+// A message that comes as binary: format 0, 1 or 2, aligned identifier.
+use crate::Brought;
+use crate::Shared;
+use crate::ranges;
+use ids::Header;
+use ids::Id;
+use records::Message;
+ghost use mathlib.Core.Path.{_≡_};
+ghost use Rattle.settings.specs.Binary.{notBrought, brought};
+
+fn refuse(number: u32) -> Brought
+    ensures { λ r. ⌜ r ≡ notBrought number ⌝ }
+{
+    let none = records::messages::no_message();
+    Brought {
+        number: number,
+        message: none,
+    }
+}
+
+// The message to store, or why not.
+pub fn bring(s: Shared, m: Message) -> Brought
+    ensures { λ r. ⌜ r ≡ brought s m ⌝ }
+{
+    let given = m.header;
+    let format = ranges::format_of(s, given.format);
+    if !ids::align::is_format(format) {
+        return refuse(13);
+    }
+    if !ids::acceptance::mode_takes(s.mode, format) {
+        return refuse(13);
+    }
+    let Id::Good(id) = ids::align::raw_id(s.align, format, given.id) else {
+        return refuse(8);
+    };
+    if 1 < given.rtr {
+        return refuse(9);
+    }
+    if 15 < given.dlc {
+        return refuse(10);
+    }
+    let h = Header {
+        id: id,
+        format: format,
+        rtr: given.rtr,
+        dlc: given.dlc,
+    };
+    let b = m.bytes;
+    let whole = Message {
+        header: h,
+        bytes: b,
+    };
+    let kept = records::messages::stored(whole);
+    Brought {
+        number: 0,
+        message: kept,
+    }
+}

@@ -1,0 +1,36 @@
+// Shared settings in range, and the format that 0 means.
+use crate::Shared;
+ghost use mathlib.Core.Path.{_≡_};
+ghost use Rattle.settings.specs.Ranges.{goodShared, formatOf};
+
+// Mode, format and Align in their ranges.
+pub fn is_shared(s: Shared) -> bool
+    ensures { λ ok. ⌜ ok ≡ goodShared s ⌝ }
+{
+    if 1 < s.mode {
+        return false;
+    }
+    if 2 < s.format {
+        return false;
+    }
+    if !ids::acceptance::mode_takes(s.mode, s.format) {
+        return false;
+    }
+    s.align <= 3
+}
+
+// A format of a call, 0 being the channel's default.
+pub fn format_of(s: Shared, format: u32) -> u32
+    ensures { λ f. ⌜ f ≡ formatOf s format ⌝ }
+{
+    if format != 0 {
+        return format;
+    }
+    if s.format != 0 {
+        return s.format;
+    }
+    if s.mode == 0 {
+        return 1;
+    }
+    2
+}
