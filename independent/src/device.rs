@@ -1,6 +1,6 @@
 //! The device's state, what states are possible, and opening.
 
-use crate::ids::Filter;
+use crate::filter::Filter;
 use crate::numbers::{answer, refuse_if, Outcome, IMPOSSIBLE_STATE, SETTING_OUT_OF_RANGE};
 use crate::records::{Message, EVENT_BYTES, MESSAGE_BYTES};
 use crate::ring::Ring;

@@ -15,6 +15,7 @@ pub mod numbers;
 
 mod changes;
 mod device;
+mod filter;
 mod ids;
 mod lines;
 mod printing;

@@ -4,3 +4,6 @@ pub mod Ways
 pub mod State
 pub mod Unique
 pub mod Harmless
+pub mod Blind
+pub mod Words
+pub mod Runs

@@ -21,7 +21,8 @@ use Rattle.board.specs.Board.{numbers, words, stateBytes, word, deviceIn
 -- ---- from a device to its bytes and back
 
 -- a number that was written is read
-word-words : (ns r : List ℕ) (k : ℕ) → k < length ns → getD ns k 0 < 4294967296 → word (words ns ++ r) k ≡ getD ns k 0
+pub word-words : (ns r : List ℕ) (k : ℕ) → k < length ns → getD ns k 0 < 4294967296
+    → word (words ns ++ r) k ≡ getD ns k 0
 unfolding word
 word-words [] r k h b = absurd (not-suc-le-zero h)
 word-words (n ∷ ns) r zero h b = number-back 4 n b

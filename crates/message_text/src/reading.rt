@@ -147,13 +147,3 @@ pub fn used_by(a: Answer) -> usize
         Answer::Refused(_number, used) => used,
     }
 }
-
-// The text after the bytes used, handed back as a part.
-pub fn rest<'a>(text: &'a [u8], used: usize) -> &'a [u8]
-    ensures { λ r. ⌜ now r ≡ drop used (now (text .entry)) ⌝ }
-{
-    if text.len() <= used {
-        return &text[..0];
-    }
-    &text[used..]
-}

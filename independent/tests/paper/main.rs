@@ -2,18 +2,13 @@
 
 mod any_values;
 mod bench_program;
-mod bench_sheet;
-mod calls;
 mod changes;
 mod filtering;
 mod impossible_states;
 mod message_text;
-mod model;
-mod naive;
 mod opening;
 mod printing;
 mod raising;
-mod random;
 mod reading;
 mod records;
 mod rig;

@@ -6,34 +6,13 @@ use borrow.Author.Needs.{needs}
 use Rattle.show.proofs.refused_line.Statement.{statement}
 use Rattle.show.proofs.refused_line.Tie as tie
 
-slice-aggregate-put-text : tie.Need-slice-aggregate-put-text
-slice-aggregate-put-text c = search needs
-
-slice-aggregate-put-text-2 : tie.Need-slice-aggregate-put-text-2
-slice-aggregate-put-text-2 c = search needs
-
-put-text-requires : tie.Need-put-text-requires
-put-text-requires c κs = search needs
-
-slice-aggregate-put-decimal : tie.Need-slice-aggregate-put-decimal
-slice-aggregate-put-decimal c = search needs
-
 put-decimal-requires : tie.Need-put-decimal-requires
 put-decimal-requires c κs = omega (arith, decimal-length-le (c .before .before .before .before .before .args .number) (search needs), c .before .before .put-text .ensures .place)
-
-slice-aggregate-put-text-3 : tie.Need-slice-aggregate-put-text-3
-slice-aggregate-put-text-3 c = search needs
-
-slice-aggregate-put-text-4 : tie.Need-slice-aggregate-put-text-4
-slice-aggregate-put-text-4 c = search needs
 
 put-text-requires-2 : tie.Need-put-text-requires-2
 put-text-requires-2 c κs =
     let word = c .before .before .before .before .before .before in
     omega (arith, decimal-length-le (word .before .before .before .args .number) (search needs), c .before .before .before .put-decimal .ensures .place, word .put-text .ensures .place)
-
-slice-aggregate-put-decimal-2 : tie.Need-slice-aggregate-put-decimal-2
-slice-aggregate-put-decimal-2 c = search needs
 
 put-decimal-requires-2 : tie.Need-put-decimal-requires-2
 put-decimal-requires-2 c κs =
@@ -48,9 +27,6 @@ put-decimal-requires-2 c κs =
       number .put-decimal .ensures .place,
       word .put-text .ensures .place,
     )
-
-slice-aggregate-put-byte : tie.Need-slice-aggregate-put-byte
-slice-aggregate-put-byte c = search needs
 
 put-byte-requires : tie.Need-put-byte-requires
 put-byte-requires c κs =
@@ -82,16 +58,16 @@ pub refused-line-spec : {M : Type 1} → statement M
 refused-line-spec =
     tie.close
     (tie.spec
-    slice-aggregate-put-text
-    slice-aggregate-put-text-2
-    put-text-requires
-    slice-aggregate-put-decimal
+    (λ c. search needs)
+    (λ c. search needs)
+    (λ c κs. search needs)
+    (λ c. search needs)
     put-decimal-requires
-    slice-aggregate-put-text-3
-    slice-aggregate-put-text-4
+    (λ c. search needs)
+    (λ c. search needs)
     put-text-requires-2
-    slice-aggregate-put-decimal-2
+    (λ c. search needs)
     put-decimal-requires-2
-    slice-aggregate-put-byte
+    (λ c. search needs)
     put-byte-requires
     returns)

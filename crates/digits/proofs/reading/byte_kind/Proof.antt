@@ -4,12 +4,6 @@ use Rattle.digits.proofs.Bytes.{decimal-kind, upper-kind, lower-kind, e
 use Rattle.digits.proofs.reading.byte_kind.Statement.{statement}
 use Rattle.digits.proofs.reading.byte_kind.Tie as tie
 
-sub-result : tie.Need-sub-result
-sub-result c = search needs
-
-sub-result-2 : tie.Need-sub-result-2
-sub-result-2 c = search needs
-
 returns : tie.Need-returns
 returns c = end-kind _ (c .match .keys1)
 
@@ -38,8 +32,8 @@ pub byte-kind-spec : {M : Type 1} → statement M
 byte-kind-spec =
     tie.close
     (tie.spec
-    sub-result
-    sub-result-2
+    (λ c. search needs)
+    (λ c. search needs)
     returns
     returns-2
     returns-3

@@ -4,19 +4,13 @@ use borrow.Author.Needs.{needs}
 use Rattle.ids.proofs.acceptance.byte_meets.Statement.{statement}
 use Rattle.ids.proofs.acceptance.byte_meets.Tie as tie
 
-carried-by-requires : tie.Need-carried-by-requires
-carried-by-requires c κs = search needs
-
 returns : tie.Need-returns
 unfolding byteMeets
 returns c = simp (← c .before .carried-by .ensures, le-leb _ _ (c .if1 .taken))
-
-field-meets-requires : tie.Need-field-meets-requires
-field-meets-requires c κs = search needs
 
 returns-2 : tie.Need-returns-2
 unfolding byteMeets
 returns-2 c = simp (c .field-meets .ensures, ← c .before .before .carried-by .ensures, lt-leb _ _ (c .before .if1 .left))
 
 pub byte-meets-spec : {M : Type 1} → statement M
-byte-meets-spec = tie.close (tie.spec carried-by-requires returns field-meets-requires returns-2)
+byte-meets-spec = tie.close (tie.spec (λ c κs. search needs) returns (λ c κs. search needs) returns-2)

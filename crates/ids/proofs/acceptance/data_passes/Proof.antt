@@ -13,15 +13,9 @@ returns-2 : tie.Need-returns-2
 unfolding dataPasses dataCompared
 returns-2 c = simp (eq-eqb _ _ (c .before .if1 .left), eq-eqb _ _ (c .if2 .taken))
 
-byte-meets-requires : tie.Need-byte-meets-requires
-byte-meets-requires c κs = search needs
-
 returns-3 : tie.Need-returns-3
 unfolding dataPasses dataCompared
 returns-3 c = simp (eq-eqb _ _ (c .before .before .before .if1 .left), ne-eqb _ _ (c .before .before .if2 .left), denied (c .before .byte-meets .ensures) (c .if3 .taken))
-
-byte-meets-requires-2 : tie.Need-byte-meets-requires-2
-byte-meets-requires-2 c κs = search needs
 
 returns-4 : tie.Need-returns-4
 unfolding dataPasses dataCompared
@@ -32,4 +26,4 @@ returns-4 c =
 pub data-passes-spec : {M : Type 1} → statement M
 data-passes-spec =
     tie.close
-    (tie.spec returns returns-2 byte-meets-requires returns-3 byte-meets-requires-2 returns-4)
+    (tie.spec returns returns-2 (λ c κs. search needs) returns-3 (λ c κs. search needs) returns-4)

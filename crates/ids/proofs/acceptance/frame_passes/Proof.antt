@@ -4,22 +4,13 @@ use borrow.Author.Needs.{needs}
 use Rattle.ids.proofs.acceptance.frame_passes.Statement.{statement}
 use Rattle.ids.proofs.acceptance.frame_passes.Tie as tie
 
-mode-takes-requires : tie.Need-mode-takes-requires
-mode-takes-requires c κs = search needs
-
 returns : tie.Need-returns
 unfolding framePasses
 returns c = simp (denied (c .before .mode-takes .ensures) (c .if1 .taken))
 
-id-passes-requires : tie.Need-id-passes-requires
-id-passes-requires c κs = search needs
-
 returns-2 : tie.Need-returns-2
 unfolding framePasses
 returns-2 c = simp (said (c .before .before .before .mode-takes .ensures) (c .before .before .if1 .left), denied (c .before .id-passes .ensures) (c .if2 .taken))
-
-data-passes-requires : tie.Need-data-passes-requires
-data-passes-requires c κs = search needs
 
 returns-3 : tie.Need-returns-3
 unfolding framePasses
@@ -31,9 +22,9 @@ pub frame-passes-spec : {M : Type 1} → statement M
 frame-passes-spec =
     tie.close
     (tie.spec
-    mode-takes-requires
+    (λ c κs. search needs)
     returns
-    id-passes-requires
+    (λ c κs. search needs)
     returns-2
-    data-passes-requires
+    (λ c κs. search needs)
     returns-3)

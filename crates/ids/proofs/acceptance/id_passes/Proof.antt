@@ -5,25 +5,13 @@ use borrow.Author.Needs.{needs}
 use Rattle.ids.proofs.acceptance.id_passes.Statement.{statement}
 use Rattle.ids.proofs.acceptance.id_passes.Tie as tie
 
-is-filter-requires : tie.Need-is-filter-requires
-is-filter-requires c κs = search needs
-
 returns : tie.Need-returns
 unfolding idPasses
 returns c = simp (denied (c .before .is-filter .ensures) (c .if1 .taken))
 
-is-format-requires : tie.Need-is-format-requires
-is-format-requires c κs = search needs
-
 returns-2 : tie.Need-returns-2
 unfolding idPasses
 returns-2 c = simp (said (c .before .before .before .is-filter .ensures) (c .before .before .if1 .left), denied (c .before .is-format .ensures) (c .if2 .taken))
-
-filter-low-requires : tie.Need-filter-low-requires
-filter-low-requires c κs = search needs
-
-id-bits-requires : tie.Need-id-bits-requires
-id-bits-requires c κs = search needs
 
 field-meets-requires : tie.Need-field-meets-requires
 field-meets-requires c κs = filter-in-word _ _ _ _ (c .before .filter-low .ensures) (c .id-bits .ensures)
@@ -44,11 +32,11 @@ pub id-passes-spec : {M : Type 1} → statement M
 id-passes-spec =
     tie.close
     (tie.spec
-    is-filter-requires
+    (λ c κs. search needs)
     returns
-    is-format-requires
+    (λ c κs. search needs)
     returns-2
-    filter-low-requires
-    id-bits-requires
+    (λ c κs. search needs)
+    (λ c κs. search needs)
     field-meets-requires
     returns-3)

@@ -7,25 +7,13 @@ use borrow.Author.Needs.{needs}
 use Rattle.ids.proofs.acceptance.let_through.Statement.{statement}
 use Rattle.ids.proofs.acceptance.let_through.Tie as tie
 
-is-filter-requires : tie.Need-is-filter-requires
-is-filter-requires c κs = search needs
-
 returns : tie.Need-returns
 unfolding letThrough
 returns c = simp (denied (c .before .is-filter .ensures) (c .if1 .taken))
 
-is-format-requires : tie.Need-is-format-requires
-is-format-requires c κs = search needs
-
 returns-2 : tie.Need-returns-2
 unfolding letThrough
 returns-2 c = simp (said (c .before .before .before .is-filter .ensures) (c .before .before .if1 .left), denied (c .before .is-format .ensures) (c .if2 .taken))
-
-filter-low-requires : tie.Need-filter-low-requires
-filter-low-requires c κs = search needs
-
-id-bits-requires : tie.Need-id-bits-requires
-id-bits-requires c κs = search needs
 
 free-bits-requires : tie.Need-free-bits-requires
 free-bits-requires c κs =
@@ -52,12 +40,12 @@ pub let-through-spec : {M : Type 1} → statement M
 let-through-spec =
     tie.close
     (tie.spec
-    is-filter-requires
+    (λ c κs. search needs)
     returns
-    is-format-requires
+    (λ c κs. search needs)
     returns-2
-    filter-low-requires
-    id-bits-requires
+    (λ c κs. search needs)
+    (λ c κs. search needs)
     free-bits-requires
     shl-result
     returns-3)

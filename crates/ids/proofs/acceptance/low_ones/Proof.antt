@@ -4,9 +4,6 @@ use borrow.Author.Needs.{needs}
 use Rattle.ids.proofs.acceptance.low_ones.Statement.{statement}
 use Rattle.ids.proofs.acceptance.low_ones.Tie as tie
 
-shl-result : tie.Need-shl-result
-shl-result c = search needs
-
 sub-result : tie.Need-sub-result
 sub-result c = rw (one-shl (c .args .w) (c .pre)) (pow-pos (c .args .w))
 
@@ -14,4 +11,4 @@ returns : tie.Need-returns
 returns c = rw (one-shl (c .args .w) (c .pre))
 
 pub low-ones-spec : {M : Type 1} → statement M
-low-ones-spec = tie.close (tie.spec shl-result sub-result returns)
+low-ones-spec = tie.close (tie.spec (λ c. search needs) sub-result returns)

@@ -13,22 +13,13 @@ returns : tie.Need-returns
 unfolding aligned
 returns c = simp (lt-leb _ _ (c .if1 .taken))
 
-is-format-requires : tie.Need-is-format-requires
-is-format-requires c κs = search needs
-
 returns-2 : tie.Need-returns-2
 unfolding aligned
 returns-2 c = simp (le-leb _ _ (c .before .before .if1 .left), denied (c .before .is-format .ensures) (c .if2 .taken))
 
-id-limit-requires : tie.Need-id-limit-requires
-id-limit-requires c κs = search needs
-
 returns-3 : tie.Need-returns-3
 unfolding aligned
 returns-3 c = simp (← c .before .id-limit .ensures, le-ltb _ _ (c .if3 .taken), and-false)
-
-id-low-requires : tie.Need-id-low-requires
-id-low-requires c κs = search needs
 
 shl-t7 : tie.Need-shl-t7
 shl-t7 c = id-in-word _ _ _ _ (c .id-low .ensures) refl .0
@@ -43,10 +34,10 @@ align-id-spec =
     tie.close
     (tie.spec
     returns
-    is-format-requires
+    (λ c κs. search needs)
     returns-2
-    id-limit-requires
+    (λ c κs. search needs)
     returns-3
-    id-low-requires
+    (λ c κs. search needs)
     shl-t7
     returns-4)

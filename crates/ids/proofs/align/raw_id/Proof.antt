@@ -14,15 +14,9 @@ returns : tie.Need-returns
 unfolding rawOf
 returns c = simp (lt-leb _ _ (c .if1 .taken))
 
-is-format-requires : tie.Need-is-format-requires
-is-format-requires c κs = search needs
-
 returns-2 : tie.Need-returns-2
 unfolding rawOf
 returns-2 c = simp (le-leb _ _ (c .before .before .if1 .left), denied (c .before .is-format .ensures) (c .if2 .taken))
-
-id-low-requires : tie.Need-id-low-requires
-id-low-requires c κs = search needs
 
 shl-if3 : tie.Need-shl-if3
 shl-if3 c = id-in-word _ _ _ _ (c .id-low .ensures) refl .0
@@ -36,9 +30,6 @@ returns-3 c = simp (← c .before .id-low .ensures, ne-eqb _ _ (rw (one-shl _ (s
 
 shr-raw : tie.Need-shr-raw
 shr-raw c = shl-if3 (c .before)
-
-id-limit-requires : tie.Need-id-limit-requires
-id-limit-requires c κs = search needs
 
 returns-4 : tie.Need-returns-4
 unfolding rawOf
@@ -62,13 +53,13 @@ raw-id-spec =
     tie.close
     (tie.spec
     returns
-    is-format-requires
+    (λ c κs. search needs)
     returns-2
-    id-low-requires
+    (λ c κs. search needs)
     shl-if3
     rem-if3
     returns-3
     shr-raw
-    id-limit-requires
+    (λ c κs. search needs)
     returns-4
     returns-5)

@@ -5,15 +5,9 @@ use borrow.Author.Needs.{needs}
 use Rattle.ids.proofs.frame.header_refusal.Statement.{statement}
 use Rattle.ids.proofs.frame.header_refusal.Tie as tie
 
-is-format-requires : tie.Need-is-format-requires
-is-format-requires c κs = search needs
-
 returns : tie.Need-returns
 unfolding headerRefusal
 returns c = simp (denied (c .before .is-format .ensures) (c .if1 .taken))
-
-id-limit-requires : tie.Need-id-limit-requires
-id-limit-requires c κs = search needs
 
 returns-2 : tie.Need-returns-2
 unfolding headerRefusal
@@ -52,4 +46,4 @@ returns-5 c =
 pub header-refusal-spec : {M : Type 1} → statement M
 header-refusal-spec =
     tie.close
-    (tie.spec is-format-requires returns id-limit-requires returns-2 returns-3 returns-4 returns-5)
+    (tie.spec (λ c κs. search needs) returns (λ c κs. search needs) returns-2 returns-3 returns-4 returns-5)

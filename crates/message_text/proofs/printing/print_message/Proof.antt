@@ -6,25 +6,13 @@ use Rattle.message_text.proofs.Printed.{id-not-bad, message-printed}
 use Rattle.message_text.proofs.printing.print_message.Statement.{statement}
 use Rattle.message_text.proofs.printing.print_message.Tie as tie
 
-refuse-requires : tie.Need-refuse-requires
-refuse-requires c κs = search needs
-
 returns : tie.Need-returns
 unfolding messageRefusal
 returns c = no-room 37 _ (c .before .if1 .taken) (c .refuse .ensures)
 
-refuse-requires-2 : tie.Need-refuse-requires-2
-refuse-requires-2 c κs = search needs
-
 returns-2 : tie.Need-returns-2
 unfolding messageRefusal
 returns-2 c = no-align 37 _ _ (c .before .before .if1 .left) (c .before .if2 .taken) (c .refuse2 .ensures)
-
-header-refusal-requires : tie.Need-header-refusal-requires
-header-refusal-requires c κs = search needs
-
-refuse-requires-3 : tie.Need-refuse-requires-3
-refuse-requires-3 c κs = search needs
 
 returns-3 : tie.Need-returns-3
 unfolding messageRefusal
@@ -33,18 +21,6 @@ returns-3 c =
     let t = c .before .before .before .before .before in
     refused (n .result) (c .refuse3 .ensures) (passed 37 _ _ _ (t .before .if1 .left) (t .if2 .left) ∙ sym (n .ensures)) (c .before .if3 .taken)
 
-align-id-requires : tie.Need-align-id-requires
-align-id-requires c κs = search needs
-
-enum-known-id : tie.Need-enum-known-id
-enum-known-id c = search needs
-
-enum-told : tie.Need-enum-told
-enum-told c = search needs
-
-refuse-requires-4 : tie.Need-refuse-requires-4
-refuse-requires-4 c κs = search needs
-
 returns-4 : tie.Need-returns-4
 returns-4 c =
     let i = c .before .before .before in
@@ -52,12 +28,6 @@ returns-4 c =
     let t = n .before .before .before in
     let s = t .before .before .before .args in
     absurd (id-not-bad (s .align) (s .m) (t .if2 .left) (sym (n .header-refusal .ensures) ∙ i .before .if3 .left) (i .align-id .ensures) (c .before .enum-told .given .1))
-
-put-message-requires : tie.Need-put-message-requires
-put-message-requires c κs = search needs
-
-same-length : tie.Need-same-length
-same-length c = search needs
 
 returns-5 : tie.Need-returns-5
 returns-5 c =
@@ -73,18 +43,18 @@ pub print-message-spec : {M : Type 1} → statement M
 print-message-spec =
     tie.close
     (tie.spec
-    refuse-requires
+    (λ c κs. search needs)
     returns
-    refuse-requires-2
+    (λ c κs. search needs)
     returns-2
-    header-refusal-requires
-    refuse-requires-3
+    (λ c κs. search needs)
+    (λ c κs. search needs)
     returns-3
-    align-id-requires
-    enum-known-id
-    enum-told
-    refuse-requires-4
+    (λ c κs. search needs)
+    (λ c. search needs)
+    (λ c. search needs)
+    (λ c κs. search needs)
     returns-4
-    put-message-requires
-    same-length
+    (λ c κs. search needs)
+    (λ c. search needs)
     returns-5)

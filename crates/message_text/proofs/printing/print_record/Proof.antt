@@ -8,25 +8,13 @@ use Rattle.digits.proofs.Answers.{refused, no-room, no-align, passed}
 use Rattle.message_text.proofs.printing.print_record.Statement.{statement}
 use Rattle.message_text.proofs.printing.print_record.Tie as tie
 
-refuse-requires : tie.Need-refuse-requires
-refuse-requires c κs = search needs
-
 returns : tie.Need-returns
 unfolding messageRecordRefusal
 returns c = no-room 37 _ (c .before .if1 .taken) (c .refuse .ensures)
 
-refuse-requires-2 : tie.Need-refuse-requires-2
-refuse-requires-2 c κs = search needs
-
 returns-2 : tie.Need-returns-2
 unfolding messageRecordRefusal
 returns-2 c = no-align 37 _ _ (c .before .before .if1 .left) (c .before .if2 .taken) (c .refuse2 .ensures)
-
-judge-message-requires : tie.Need-judge-message-requires
-judge-message-requires c κs = search needs
-
-refuse-requires-3 : tie.Need-refuse-requires-3
-refuse-requires-3 c κs = search needs
 
 returns-3 : tie.Need-returns-3
 unfolding messageRecordRefusal
@@ -35,12 +23,6 @@ returns-3 c =
     let t = j .before in
     let d = damaged (now (t .before .before .before .before .args .s)) (j .judge-message .result) (j .judge-message .ensures) (c .before .if3 .taken) in
     refused 14 (c .refuse3 .ensures) (passed 37 _ _ _ (t .before .if1 .left) (t .if2 .left) ∙ d) (λ z. omega arith)
-
-print-message-requires : tie.Need-print-message-requires
-print-message-requires c κs = search needs
-
-same-length : tie.Need-same-length
-same-length c = search needs
 
 returns-4 : tie.Need-returns-4
 returns-4 c =
@@ -53,13 +35,13 @@ pub print-record-spec : {M : Type 1} → statement M
 print-record-spec =
     tie.close
     (tie.spec
-    refuse-requires
+    (λ c κs. search needs)
     returns
-    refuse-requires-2
+    (λ c κs. search needs)
     returns-2
-    judge-message-requires
-    refuse-requires-3
+    (λ c κs. search needs)
+    (λ c κs. search needs)
     returns-3
-    print-message-requires
-    same-length
+    (λ c κs. search needs)
+    (λ c. search needs)
     returns-4)

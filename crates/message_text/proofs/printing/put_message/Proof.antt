@@ -8,12 +8,6 @@ use Rattle.message_text.specs.Printing.{messageText}
 use Rattle.message_text.proofs.printing.put_message.Statement.{statement}
 use Rattle.message_text.proofs.printing.put_message.Tie as tie
 
-carried-by-requires : tie.Need-carried-by-requires
-carried-by-requires c κs = search needs
-
-put-hex-requires : tie.Need-put-hex-requires
-put-hex-requires c κs = search needs
-
 put-field-requires : tie.Need-put-field-requires
 put-field-requires c κs =
     let s = c .before .before .before .before .before .before .before .args in
@@ -39,9 +33,6 @@ put-byte-requires c κs =
     let t = length-take n (s .b) in
     omega (arith, hex-length 8 (s .id), hex-length 1 (s .h .rtr), hex-length 1 (s .h .dlc), carried-le (s .h))
 
-same-length : tie.Need-same-length
-same-length c = search needs
-
 returns : tie.Need-returns
 unfolding messageText
 returns c =
@@ -56,11 +47,11 @@ pub put-message-spec : {M : Type 1} → statement M
 put-message-spec =
     tie.close
     (tie.spec
-    carried-by-requires
-    put-hex-requires
+    (λ c κs. search needs)
+    (λ c κs. search needs)
     put-field-requires
     put-field-requires-2
     put-bytes-requires
     put-byte-requires
-    same-length
+    (λ c. search needs)
     returns)

@@ -14,23 +14,8 @@ Inv-loop at k₀ k = (length at ≡ 11) × (allBytes (drop 3 at) ≡ allBytes (d
 abbrev μ-loop : tie.MeasureT-loop
 μ-loop at k₀ k = 11 - k
 
-loop-holds : tie.Need-loop-holds Inv-loop μ-loop
-loop-holds c = search needs
-
-mul-if1 : tie.Need-mul-if1 Inv-loop μ-loop
-mul-if1 c = search needs
-
-array-read-if1 : tie.Need-array-read-if1 Inv-loop μ-loop
-array-read-if1 c = search needs
-
 returns : tie.Need-returns Inv-loop μ-loop
 returns c = let l = c .before .before .loop in sym (l .inv .1 ∙ bytes-stop (c .before .before .before .args .t1) (l .k) (omega arith) (c .if1 .taken))
-
-add-k : tie.Need-add-k Inv-loop μ-loop
-add-k c = search needs
-
-loop-less : tie.Need-loop-less Inv-loop μ-loop
-loop-less c = search needs
 
 loop-again : tie.Need-loop-again Inv-loop μ-loop
 loop-again c = let l = c .before .before .loop in (l .inv .0, l .inv .1 ∙ bytes-more (c .before .before .before .args .t1) (l .k) (omega arith) (c .if1 .left))
@@ -44,11 +29,11 @@ all-bytes-spec =
     (tie.spec
     Inv-loop
     μ-loop
-    loop-holds
-    mul-if1
-    array-read-if1
+    (λ c. search needs)
+    (λ c. search needs)
+    (λ c. search needs)
     returns
-    add-k
-    loop-less
+    (λ c. search needs)
+    (λ c. search needs)
     loop-again
     returns-2)

@@ -8,36 +8,15 @@ use Rattle.message_text.specs.Reading.{judgedData}
 use Rattle.message_text.proofs.reading.judge_data.Statement.{statement}
 use Rattle.message_text.proofs.reading.judge_data.Tie as tie
 
-carried-by-requires : tie.Need-carried-by-requires
-carried-by-requires c κs = search needs
-
-cast-if1 : tie.Need-cast-if1
-cast-if1 c = search needs
-
-add-if1 : tie.Need-add-if1
-add-if1 c = search needs
-
-refuse-requires : tie.Need-refuse-requires
-refuse-requires c κs = search needs
-
 returns : tie.Need-returns
 unfolding judgedData
 returns c =
     let carried = c .before .before .carried-by in
     rw (c .refuse .ensures, ← carried .ensures, lt-ltb _ (3 + carried .result) (c .before .if1 .taken))
 
-refuse-requires-2 : tie.Need-refuse-requires-2
-refuse-requires-2 c κs = search needs
-
 returns-2 : tie.Need-returns-2
 unfolding judgedData
 returns-2 c = rw (c .refuse2 .ensures, ← c .before .before .before .carried-by .ensures, le-ltb _ _ (c .before .before .if1 .left), lt-ltb _ _ (c .before .if2 .taken))
-
-all-bytes-requires : tie.Need-all-bytes-requires
-all-bytes-requires c κs = search needs
-
-refuse-requires-3 : tie.Need-refuse-requires-3
-refuse-requires-3 c κs = search needs
 
 returns-3 : tie.Need-returns-3
 unfolding judgedData
@@ -72,15 +51,15 @@ pub judge-data-spec : {M : Type 1} → statement M
 judge-data-spec =
     tie.close
     (tie.spec
-    carried-by-requires
-    cast-if1
-    add-if1
-    refuse-requires
+    (λ c κs. search needs)
+    (λ c. search needs)
+    (λ c. search needs)
+    (λ c κs. search needs)
     returns
-    refuse-requires-2
+    (λ c κs. search needs)
     returns-2
-    all-bytes-requires
-    refuse-requires-3
+    (λ c κs. search needs)
+    (λ c κs. search needs)
     returns-3
     data-bytes-requires
     returns-4)

@@ -10,15 +10,6 @@ use borrow.Author.Needs.{needs}
 use Rattle.message_text.proofs.reading.read_message.Statement.{statement}
 use Rattle.message_text.proofs.reading.read_message.Tie as tie
 
-scan-requires : tie.Need-scan-requires
-scan-requires c κs = search needs
-
-first-end-requires : tie.Need-first-end-requires
-first-end-requires c κs = search needs
-
-refuse-requires : tie.Need-refuse-requires
-refuse-requires c κs = search needs
-
 returns : tie.Need-returns
 unfolding readMessage
 returns c =
@@ -26,12 +17,6 @@ returns c =
     let s = c .before .before .before .scan in
     let e = c .before .before .first-end .ensures ∙ sym (s .ensures .clear) in
     rw (c .refuse .ensures, le-ltb (beforeEnd t) (length t) (omega arith))
-
-after-ends-requires : tie.Need-after-ends-requires
-after-ends-requires c κs = search needs
-
-judge-requires : tie.Need-judge-requires
-judge-requires c κs = search needs
 
 returns-2 : tie.Need-returns-2
 returns-2 c =
@@ -45,10 +30,10 @@ pub read-message-spec : {M : Type 1} → statement M
 read-message-spec =
     tie.close
     (tie.spec
-    scan-requires
-    first-end-requires
-    refuse-requires
+    (λ c κs. search needs)
+    (λ c κs. search needs)
+    (λ c κs. search needs)
     returns
-    after-ends-requires
-    judge-requires
+    (λ c κs. search needs)
+    (λ c κs. search needs)
     returns-2)

@@ -15,21 +15,6 @@ Inv-loop text from i₀ i = (i ≤ length text) × (from + beforeEnd (drop from 
 abbrev μ-loop : tie.MeasureT-loop
 μ-loop text from i₀ i = length text - i
 
-loop-holds : tie.Need-loop-holds Inv-loop μ-loop
-loop-holds c = search needs
-
-shared-slice-read-byte-kind : tie.Need-shared-slice-read-byte-kind Inv-loop μ-loop
-shared-slice-read-byte-kind c = search needs
-
-byte-kind-requires : tie.Need-byte-kind-requires Inv-loop μ-loop
-byte-kind-requires c κs = search needs
-
-add-i : tie.Need-add-i Inv-loop μ-loop
-add-i c = search needs
-
-loop-less : tie.Need-loop-less Inv-loop μ-loop
-loop-less c = search needs
-
 loop-again : tie.Need-loop-again Inv-loop μ-loop
 loop-again c =
     let k = c .before .byte-kind in
@@ -49,11 +34,11 @@ first-end-spec =
     (tie.spec
     Inv-loop
     μ-loop
-    loop-holds
-    shared-slice-read-byte-kind
-    byte-kind-requires
-    add-i
-    loop-less
+    (λ c. search needs)
+    (λ c. search needs)
+    (λ c κs. search needs)
+    (λ c. search needs)
+    (λ c. search needs)
     loop-again
     returns
     returns-2)

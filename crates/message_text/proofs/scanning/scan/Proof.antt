@@ -30,15 +30,6 @@ shared-slice-read-byte-kind :
     tie.Need-shared-slice-read-byte-kind Inv-digits μ-digits Inv-numbers μ-numbers
 shared-slice-read-byte-kind c = search needs
 
-byte-kind-requires : tie.Need-byte-kind-requires Inv-digits μ-digits Inv-numbers μ-numbers
-byte-kind-requires c κs = search needs
-
-add-i : tie.Need-add-i Inv-digits μ-digits Inv-numbers μ-numbers
-add-i c = search needs
-
-cast-v : tie.Need-cast-v Inv-digits μ-digits Inv-numbers μ-numbers
-cast-v c = search needs
-
 digits-holds : tie.Need-digits-holds Inv-digits μ-digits Inv-numbers μ-numbers
 digits-holds c =
     let k = c .before .before .byte-kind in
@@ -48,20 +39,8 @@ shared-slice-read-byte-kind-2 :
     tie.Need-shared-slice-read-byte-kind-2 Inv-digits μ-digits Inv-numbers μ-numbers
 shared-slice-read-byte-kind-2 c = search needs
 
-byte-kind-requires-2 : tie.Need-byte-kind-requires-2 Inv-digits μ-digits Inv-numbers μ-numbers
-byte-kind-requires-2 c κs = search needs
-
 keep-requires : tie.Need-keep-requires Inv-digits μ-digits Inv-numbers μ-numbers
 keep-requires c κs = c .before .before .before .before .before .digits .inv .0 .size
-
-add-i-2 : tie.Need-add-i-2 Inv-digits μ-digits Inv-numbers μ-numbers
-add-i-2 c = search needs
-
-with-digit-requires : tie.Need-with-digit-requires Inv-digits μ-digits Inv-numbers μ-numbers
-with-digit-requires c κs = search needs
-
-digits-less : tie.Need-digits-less Inv-digits μ-digits Inv-numbers μ-numbers
-digits-less c = search needs
 
 digits-again : tie.Need-digits-again Inv-digits μ-digits Inv-numbers μ-numbers
 digits-again c =
@@ -89,9 +68,6 @@ numbers-less c = let l = left (c .before .before .before) in omega (arith, l .0,
 
 numbers-again : tie.Need-numbers-again Inv-digits μ-digits Inv-numbers μ-numbers
 numbers-again c = let e = c .before .keep2 .ensures in (rw e (left (c .before .before .before) .1), omega (arith, ap (λ k. k .count) e))
-
-numbers-less-2 : tie.Need-numbers-less-2 Inv-digits μ-digits Inv-numbers μ-numbers
-numbers-less-2 c = search needs
 
 numbers-again-2 : tie.Need-numbers-again-2 Inv-digits μ-digits Inv-numbers μ-numbers
 numbers-again-2 c =
@@ -125,21 +101,21 @@ scan-spec =
     μ-numbers
     numbers-holds
     shared-slice-read-byte-kind
-    byte-kind-requires
-    add-i
-    cast-v
+    (λ c κs. search needs)
+    (λ c. search needs)
+    (λ c. search needs)
     digits-holds
     shared-slice-read-byte-kind-2
-    byte-kind-requires-2
+    (λ c κs. search needs)
     keep-requires
-    add-i-2
-    with-digit-requires
-    digits-less
+    (λ c. search needs)
+    (λ c κs. search needs)
+    (λ c. search needs)
     digits-again
     keep-requires-2
     numbers-less
     numbers-again
-    numbers-less-2
+    (λ c. search needs)
     numbers-again-2
     returns
     returns-2

@@ -6,17 +6,8 @@ use Rattle.records.proofs.Data.{kept, all-kept}
 use Rattle.records.proofs.carried.keep_first.Statement.{statement}
 use Rattle.records.proofs.carried.keep_first.Tie as tie
 
-long-of-requires : tie.Need-long-of-requires
-long-of-requires c κs = search needs
-
-power-requires : tie.Need-power-requires
-power-requires c κs = search needs
-
 rem-bytes-of : tie.Need-rem-bytes-of
 rem-bytes-of c = let e = c .power .ensures in omega (arith, power-pos (c .before .before .before .before .args .n))
-
-bytes-of-requires : tie.Need-bytes-of-requires
-bytes-of-requires c κs = search needs
 
 returns : tie.Need-returns
 returns c =
@@ -24,9 +15,6 @@ returns c =
     let a = p .before .before in
     kept (now (a .args .b)) _ (a .args .n) _ _ (a .pre) (λ i. p .before .shared-slice-known .given i .fits) (p .long-of .ensures)
     (c .before .power .ensures) (c .bytes-of .ensures)
-
-bytes-of-requires-2 : tie.Need-bytes-of-requires-2
-bytes-of-requires-2 c κs = search needs
 
 returns-2 : tie.Need-returns-2
 returns-2 c =
@@ -39,10 +27,10 @@ pub keep-first-spec : {M : Type 1} → statement M
 keep-first-spec =
     tie.close
     (tie.spec
-    long-of-requires
-    power-requires
+    (λ c κs. search needs)
+    (λ c κs. search needs)
     rem-bytes-of
-    bytes-of-requires
+    (λ c κs. search needs)
     returns
-    bytes-of-requires-2
+    (λ c κs. search needs)
     returns-2)

@@ -4,12 +4,6 @@ use Rattle.records.proofs.Data.{past, none-past}
 use Rattle.records.proofs.carried.zero_past.Statement.{statement}
 use Rattle.records.proofs.carried.zero_past.Tie as tie
 
-long-of-requires : tie.Need-long-of-requires
-long-of-requires c κs = search needs
-
-power-requires : tie.Need-power-requires
-power-requires c κs = search needs
-
 returns : tie.Need-returns
 returns c =
     let a = c .before .before .before .before in
@@ -19,4 +13,4 @@ returns-2 : tie.Need-returns-2
 returns-2 c = none-past (now (c .before .before .args .b)) (c .before .before .args .n) (c .before .before .pre) (c .if1 .left)
 
 pub zero-past-spec : {M : Type 1} → statement M
-zero-past-spec = tie.close (tie.spec long-of-requires power-requires returns returns-2)
+zero-past-spec = tie.close (tie.spec (λ c κs. search needs) (λ c κs. search needs) returns returns-2)

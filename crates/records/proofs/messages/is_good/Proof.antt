@@ -5,21 +5,9 @@ use Rattle.records.specs.Messages.{goodMessage}
 use Rattle.records.proofs.messages.is_good.Statement.{statement}
 use Rattle.records.proofs.messages.is_good.Tie as tie
 
-header-refusal-requires : tie.Need-header-refusal-requires
-header-refusal-requires c κs = search needs
-
 returns : tie.Need-returns
 unfolding goodMessage
 returns c = simp (ne-eqb _ _ (λ e. c .if1 .taken (c .before .header-refusal .ensures ∙ e)))
-
-slice-aggregate-zero-past : tie.Need-slice-aggregate-zero-past
-slice-aggregate-zero-past c = search needs
-
-carried-by-requires : tie.Need-carried-by-requires
-carried-by-requires c κs = search needs
-
-zero-past-requires : tie.Need-zero-past-requires
-zero-past-requires c κs = search needs
 
 returns-2 : tie.Need-returns-2
 unfolding goodMessage
@@ -31,9 +19,9 @@ pub is-good-spec : {M : Type 1} → statement M
 is-good-spec =
     tie.close
     (tie.spec
-    header-refusal-requires
+    (λ c κs. search needs)
     returns
-    slice-aggregate-zero-past
-    carried-by-requires
-    zero-past-requires
+    (λ c. search needs)
+    (λ c κs. search needs)
+    (λ c κs. search needs)
     returns-2)

@@ -8,18 +8,9 @@ returns : tie.Need-returns
 unfolding isMessage
 returns c = simp (ne-eqb _ _ (c .if1 .taken))
 
-shared-slice-read-if2 : tie.Need-shared-slice-read-if2
-shared-slice-read-if2 c = search needs
-
 returns-2 : tie.Need-returns-2
 unfolding isMessage
 returns-2 c = simp (eq-eqb _ _ (c .before .before .if1 .left), ne-eqb _ _ (c .if2 .taken))
-
-message-in-requires : tie.Need-message-in-requires
-message-in-requires c κs = search needs
-
-is-good-requires : tie.Need-is-good-requires
-is-good-requires c κs = search needs
 
 returns-3 : tie.Need-returns-3
 unfolding isMessage
@@ -30,8 +21,8 @@ is-message-spec =
     tie.close
     (tie.spec
     returns
-    shared-slice-read-if2
+    (λ c. search needs)
     returns-2
-    message-in-requires
-    is-good-requires
+    (λ c κs. search needs)
+    (λ c κs. search needs)
     returns-3)

@@ -6,12 +6,6 @@ use Rattle.records.proofs.Laws.{message-tests}
 use Rattle.records.proofs.messages.judge_message.Statement.{statement}
 use Rattle.records.proofs.messages.judge_message.Tie as tie
 
-is-message-requires : tie.Need-is-message-requires
-is-message-requires c κs = search needs
-
-no-message-requires : tie.Need-no-message-requires
-no-message-requires c κs = search needs
-
 returns : tie.Need-returns
 unfolding judgeMessage
 returns c = simp (denied (c .before .before .is-message .ensures) (c .before .if1 .taken), c .no-message .ensures)
@@ -26,4 +20,4 @@ returns-2 c = simp (said (c .before .before .is-message .ensures) (c .before .if
 pub judge-message-spec : {M : Type 1} → statement M
 judge-message-spec =
     tie.close
-    (tie.spec is-message-requires no-message-requires returns message-in-requires returns-2)
+    (tie.spec (λ c κs. search needs) (λ c κs. search needs) returns message-in-requires returns-2)

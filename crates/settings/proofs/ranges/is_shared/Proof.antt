@@ -13,9 +13,6 @@ returns-2 : tie.Need-returns-2
 unfolding goodShared
 returns-2 c = rw (le-leb _ _ (c .before .before .if1 .left), lt-leb _ _ (c .if2 .taken))
 
-mode-takes-requires : tie.Need-mode-takes-requires
-mode-takes-requires c κs = search needs
-
 returns-3 : tie.Need-returns-3
 unfolding goodShared
 returns-3 c =
@@ -32,4 +29,4 @@ returns-4 c =
     rw (le-leb _ _ (if1 .left), le-leb _ _ (if2 .left), takes-it)
 
 pub is-shared-spec : {M : Type 1} → statement M
-is-shared-spec = tie.close (tie.spec returns returns-2 mode-takes-requires returns-3 returns-4)
+is-shared-spec = tie.close (tie.spec returns returns-2 (λ c κs. search needs) returns-3 returns-4)

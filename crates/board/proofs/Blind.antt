@@ -1,0 +1,228 @@
+-- What a call is not lent it does not see, and leaves.
+use mathlib.Core.Path.{_≡_, refl}
+use mathlib.Core.Bool.{Bool, true, false}
+use mathlib.Core.List.{List, []}
+use Prim.Native.Nat.{ℕ}
+use lib.ListN.{length}
+use lib.Dec.{ltb, eqb}
+use Rattle.common.specs.Choice.{pick}
+use Rattle.common.proofs.Bools.{apart}
+use Rattle.common.proofs.Choices.{pick-is}
+use Rattle.ids.specs.Ids.{isFormat}
+use Rattle.ids.specs.EventMask.{isMask}
+use Rattle.records.specs.Events.{isEvent}
+use Rattle.records.specs.Raised.{frameRefusal}
+use Rattle.records.specs.declared.Message.{Message}
+use Rattle.records.specs.declared.Event.{Event}
+use Rattle.event_text.specs.Lines.{eventRoom}
+use Rattle.message_text.specs.Reading.{readMessage}
+use Rattle.message_text.specs.declared.Answer.{Answer}
+use Rattle.message_text.specs.declared.Answer.the-variants.{Taken, Refused}
+use Rattle.message_text.specs.declared.Said.{Said}
+use Rattle.settings.specs.Ranges.{goodShared, formatOf}
+use Rattle.settings.specs.Binary.{binaryRefusal, sentMessage}
+use Rattle.settings.specs.TxMode.{raisesAtTake, raisesAtDone}
+use Rattle.settings.specs.declared.Shared.{Shared}
+use Rattle.queue.specs.Queue.{slotAt}
+use Rattle.outbox.specs.Outbox.{sending, taking}
+use Rattle.recorder.specs.State.{good}
+use Rattle.recorder.specs.Outcomes.{Lent, Outcome, queueReady, sendReady, bothReady, ends, noted, notedIf}
+use Rattle.recorder.specs.Receiving.{changed, filterSet, eventMaskSet, raised, recordRead, textRead, lookSaid, through}
+use Rattle.recorder.specs.Sending.{put, sent, putSaid, textSent, taken, finished, aborted}
+use Rattle.recorder.specs.Printing.{linePrinted}
+use Rattle.recorder.specs.declared.Device.{Device}
+use Rattle.model.specs.Inbox.{readRecord, readText, look, setFilter, setEventMask, identifiersThrough}
+use Rattle.model.specs.Outbox.{send, sendText, take, done, abort}
+use Rattle.model.specs.Box.{raise, setMode, setFormat, printMessageRecord, printEventRecord, printMessage}
+use Rattle.model.specs.Box.{Call, onDevice, onReceive, onSend, onAlign}
+use Rattle.promises.specs.Calls.{outcome}
+use Rattle.board.specs.Runs.{Borrows, borrows, borrowed, lentTo, whole}
+
+-- a choice, each of whose ways is blind
+both : (f : Outcome → Outcome) (c : Bool) {a b u v : Outcome} → f a ≡ u → f b ≡ v → f (pick c a b) ≡ pick c u v
+both f true x y = x
+both f false x y = y
+
+module _ (d : Device) (l : Lent) where
+  -- an outcome over what a call is lent is the outcome over everything
+  abbrev Blind : Borrows → (Lent → Outcome) → Type 0
+  Blind v o = whole v l (o (lentTo v l)) ≡ o l
+
+  -- ---- the calls that see the event table
+
+  -- lent the event table
+  abbrev onQueue : Borrows
+  onQueue = borrows true true false false
+
+  abbrev Q : Outcome → Outcome
+  Q o = whole onQueue l o
+
+  -- an event that is raised meets the event table alone
+  noted-blind : (c : Bool) (e : Event) (n : ℕ) (o : Device) → Blind onQueue (λ m. notedIf c e (ends 0 n [] o m))
+  unfolding noted
+  noted-blind c e n o = both Q c refl refl
+
+  -- a change of mode or format
+  changed-blind : (s : Shared) (tick : ℕ) → Blind onQueue (changed s tick d)
+  unfolding changed noted
+  changed-blind s tick = both Q (queueReady d l) (both Q (goodShared s) refl refl) refl
+
+  -- a raise
+  raised-blind : (code tick : ℕ) (m : Message) → Blind onQueue (raised code tick m d)
+  unfolding raised
+  raised-blind code tick m = both Q (queueReady d l) (both Q (eqb (frameRefusal code m) 0) refl refl) refl
+
+  -- a read as bytes
+  record-blind : Blind onQueue (recordRead d)
+  unfolding recordRead
+  record-blind = both Q (queueReady d l) refl refl
+
+  -- done
+  done-blind : (tick : ℕ) → Blind onQueue (finished tick d)
+  unfolding finished
+  done-blind tick =
+      both Q (queueReady d l) (both Q (d .send .held) (noted-blind (raisesAtDone (d .send .tx)) _ 0 _) refl) refl
+
+  -- abort
+  abort-blind : (tick : ℕ) → Blind onQueue (aborted tick d)
+  unfolding aborted
+  abort-blind tick = both Q (queueReady d l) (noted-blind (d .send .held) _ (d .send .ring .count) _) refl
+
+  -- ---- and the output buffer, or the message table
+
+  -- a read as text: the event table and the buffer
+  text-blind : Blind (borrows true true false true) (textRead d)
+  unfolding textRead
+  text-blind =
+      let f : Outcome → Outcome = λ o. whole (borrows true true false true) l o in
+      both f (queueReady d l)
+      (both f (ltb (length (l .out)) eventRoom) refl
+      (both f (eqb (d .receive .ring .count) 0) refl (both f (isEvent (slotAt (d .receive) (l .queue) 0)) refl refl)))
+      refl
+
+  -- take: both tables
+  take-blind : (tick : ℕ) → Blind (borrows true true true false) (taken tick d)
+  unfolding taken noted
+  take-blind tick =
+      let f : Outcome → Outcome = λ o. whole (borrows true true true false) l o in
+      both f (bothReady d l)
+      (both f (eqb (taking (d .send) (l .send) .number) 0) (both f (raisesAtTake (d .send .tx)) refl refl) refl)
+      refl
+
+  -- ---- the calls that see the message table
+
+  -- lent the message table
+  abbrev onTable : Borrows
+  onTable = borrows true false true false
+
+  abbrev S : Outcome → Outcome
+  S o = whole onTable l o
+
+  -- a message is put in
+  put-blind : (m : Message) (n : ℕ) → Blind onTable (put m n d)
+  unfolding put
+  put-blind m n = both S (eqb (sending (d .send) m (l .send) .number) 0) refl refl
+
+  -- a binary send
+  send-blind : (m : Message) → Blind onTable (sent m d)
+  unfolding sent
+  send-blind m =
+      both S (sendReady d l)
+      (both S (eqb (binaryRefusal (d .shared) m) 0) (put-blind (sentMessage (d .shared) m) 0) refl)
+      refl
+
+  -- what a text says is put in
+  said-blind : (s : Said) → Blind onTable (putSaid s d)
+  said-blind s = by (s .answer) refl
+    where
+      by : (a : Answer) → s .answer ≡ a → Blind onTable (putSaid s d)
+      by (Taken h used) x = rw x (put-blind (record { header = h; bytes = s .bytes }) used)
+      by (Refused n used) x = rw x
+
+  -- a text send
+  send-text-blind : (text : List ℕ) → Blind onTable (textSent text d)
+  unfolding textSent
+  send-text-blind text =
+      both S (sendReady d l)
+      (said-blind (readMessage (d .shared .align) (formatOf (d .shared) (d .shared .format)) text))
+      refl
+
+  -- ---- the calls that see the output buffer, or nothing lent
+
+  -- a line is printed: the buffer
+  print-blind : (n : ℕ) (line : List ℕ) → Blind (borrows false false false true) (linePrinted n line d)
+  unfolding linePrinted
+  print-blind n line =
+      let f : Outcome → Outcome = λ o. whole (borrows false false false true) l o in
+      both f (good d) (both f (eqb n 0) refl refl) refl
+
+  -- a change of the filter: nothing lent
+  filter-blind : (code mask : ℕ) → Blind (borrows true false false false) (filterSet code mask d)
+  unfolding filterSet
+  filter-blind code mask = both (λ o. whole (borrows true false false false) l o) (good d) refl refl
+
+  -- a change of the event mask
+  mask-blind : (mask : ℕ) → Blind (borrows true false false false) (eventMaskSet mask d)
+  unfolding eventMaskSet
+  mask-blind mask =
+      let f : Outcome → Outcome = λ o. whole (borrows true false false false) l o in
+      both f (good d) (both f (isMask mask) refl refl) refl
+
+  -- the identifiers let through
+  through-blind : (format : ℕ) → Blind (borrows false false false false) (through format d)
+  unfolding through
+  through-blind format =
+      let f : Outcome → Outcome = λ o. whole (borrows false false false false) l o in
+      both f (good d) (both f (isFormat format) refl refl) refl
+
+-- THEOREM. A call sees nothing of what it is not lent, and leaves it
+pub blind : (x : Call) (d : Device) (l : Lent)
+    → whole (borrowed x) l (outcome x d (lentTo (borrowed x) l)) ≡ outcome x d l
+unfolding outcome borrowed lookSaid
+blind (onDevice (raise code tick m)) d l = raised-blind d l code tick m
+blind (onDevice (setMode mode tick)) d l = changed-blind d l _ tick
+blind (onDevice (setFormat format tick)) d l = changed-blind d l _ tick
+blind (onReceive readRecord) d l = record-blind d l
+blind (onReceive readText) d l = text-blind d l
+blind (onReceive (look p)) d l = refl
+blind (onReceive (setFilter code mask)) d l = filter-blind d l code mask
+blind (onReceive (setEventMask mask)) d l = mask-blind d l mask
+blind (onReceive (identifiersThrough format)) d l = through-blind d l format
+blind (onSend (send m)) d l = send-blind d l m
+blind (onSend (sendText text)) d l = send-text-blind d l text
+blind (onSend (take tick)) d l = take-blind d l tick
+blind (onSend (done tick)) d l = done-blind d l tick
+blind (onSend (abort tick)) d l = abort-blind d l tick
+blind (onAlign (printMessageRecord s)) d l = print-blind d l _ _
+blind (onAlign (printEventRecord s)) d l = print-blind d l _ _
+blind (onAlign (printMessage m)) d l = print-blind d l _ _
+
+-- ---- the state that a call only reads
+
+-- a line that is printed leaves the device
+print-still : (n : ℕ) (line : List ℕ) (d : Device) (l : Lent) → d ≡ linePrinted n line d l .device
+unfolding linePrinted
+print-still n line d l =
+    let Same : Outcome → Type 0 = λ o. d ≡ o .device in
+    pick-is Same (good d) (λ e. pick-is Same (eqb n 0) (λ f. refl) (λ f. refl)) (λ e. refl)
+
+-- THEOREM. A call that only reads the state leaves the device
+pub reads-only : (x : Call) (d : Device) (l : Lent) → borrowed x .writes ≡ false → d ≡ outcome x d l .device
+unfolding borrowed outcome through
+reads-only (onDevice x) d l h = absurd (apart h)
+reads-only (onReceive readRecord) d l h = absurd (apart h)
+reads-only (onReceive readText) d l h = absurd (apart h)
+reads-only (onReceive (look p)) d l h = refl
+reads-only (onReceive (setFilter code mask)) d l h = absurd (apart h)
+reads-only (onReceive (setEventMask mask)) d l h = absurd (apart h)
+reads-only (onReceive (identifiersThrough format)) d l h =
+    let Same : Outcome → Type 0 = λ o. d ≡ o .device in
+    pick-is Same (good d) (λ e. pick-is Same (isFormat format) (λ f. refl) (λ f. refl)) (λ e. refl)
+reads-only (onSend (send m)) d l h = absurd (apart h)
+reads-only (onSend (sendText text)) d l h = absurd (apart h)
+reads-only (onSend (take tick)) d l h = absurd (apart h)
+reads-only (onSend (done tick)) d l h = absurd (apart h)
+reads-only (onSend (abort tick)) d l h = absurd (apart h)
+reads-only (onAlign (printMessageRecord s)) d l h = print-still _ _ d l
+reads-only (onAlign (printEventRecord s)) d l h = print-still _ _ d l
+reads-only (onAlign (printMessage m)) d l h = print-still _ _ d l
