@@ -5,7 +5,7 @@
  * lent as well, as pointer and length: SV_EVENT bytes for each event of the queue, SV_MESSAGE for each message of the
  * send buffer. There is no heap and no global state; blocking, timeouts and locking are the shell's.
  *
- * Every call returns its number: 0 for success (a raise 100 to 103), 1 to 14 for a refusal. A refused call leaves every
+ * Every call returns its number: 0 for success (a raise 100 to 103), 1 to 99 for a refusal (1 to 14 are in use). A refused call leaves every
  * byte of the state, of the tables and of the buffers, and every value behind a pointer, as it was. The one exception is
  * `used` of sv_send_text, which is written at every call.
  *
@@ -44,11 +44,59 @@ extern "C" {
 #define SV_AT_LEAST(n) static n
 #endif
 
+/* The version of this interface: it changes when a size, a place or a call does. */
+enum { SV_VERSION = 1 };
+
 /* Bytes of a state, of an event, of a message; room that a line of text needs, whatever the line. */
 enum { SV_STATE = 88, SV_EVENT = 32, SV_MESSAGE = 16, SV_EVENT_ROOM = 80, SV_MESSAGE_ROOM = 37 };
 
-/* What a raise answers. */
-enum { SV_RECORDED = 100, SV_FILTERED = 101, SV_MASKED = 102, SV_LOST = 103 };
+/* The most places that a queue and a send buffer can have. */
+enum { SV_EVENTS = 2048, SV_MESSAGES = 1024 };
+
+/* What a raise answers; every other call answers SV_DONE or a refusal. */
+enum { SV_DONE = 0, SV_RECORDED = 100, SV_FILTERED = 101, SV_MASKED = 102, SV_LOST = 103 };
+
+/* The refusals. */
+enum {
+    SV_BAD_SETTING = 1,
+    SV_BAD_STATE = 2,
+    SV_NO_ROOM = 3,
+    SV_NOTHING = 4,
+    SV_OCCUPIED = 5,
+    SV_NO_END = 6,
+    SV_TOO_FEW = 7,
+    SV_BAD_ID = 8,
+    SV_BAD_RTR = 9,
+    SV_BAD_DLC = 10,
+    SV_TOO_MANY = 11,
+    SV_BAD_DATA = 12,
+    SV_BAD_FORMAT = 13,
+    SV_DAMAGED = 14
+};
+
+/* Event codes; every other code prints as "unknown event N". Bit k of the event mask lets code k be recorded, bit 0 all
+ * other codes. */
+enum {
+    SV_RECEIVED = 1,
+    SV_TRANSMITTED = 2,
+    SV_ABORTED = 3,
+    SV_ARBITRATION_LOST = 4,
+    SV_DEVICE_CHANGED = 5,
+    SV_ENTERING_STANDBY = 6,
+    SV_LEAVING_STANDBY = 7,
+    SV_OVERRUN = 8,
+    SV_WARNING = 9,
+    SV_PASSIVE = 10,
+    SV_BUS_ERROR = 11
+};
+
+/* Modes, formats, and when a transmitted event is raised (TxMode; 5 is as 1). */
+enum { SV_CAN_20A = 0, SV_CAN_20B = 1 };
+enum { SV_DEFAULT = 0, SV_STANDARD = 1, SV_EXTENDED = 2 };
+enum { SV_TX_SILENT = 1, SV_TX_AT_TAKE = 3, SV_TX_AT_DONE = 7 };
+
+/* Where a state keeps the event mask, the queue's count and the pending lost count; where an event has its lost count. */
+enum { SV_AT_EVENT_MASK = 24, SV_AT_QUEUE_COUNT = 36, SV_AT_PENDING = 40, SV_AT_LOST = 12 };
 
 /* ---- opening */
 
