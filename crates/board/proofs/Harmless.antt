@@ -13,7 +13,8 @@ use Rattle.recorder.specs.Receiving.{opened}
 use Rattle.model.specs.Box.{Call}
 use Rattle.promises.specs.Calls.{outcome}
 use Rattle.promises.proofs.Harmless as Calls
-use Rattle.board.specs.Board.{stateSize, deviceIn, isState, on, openedOn, Unchanged}
+use Rattle.kept.specs.State.{stateSize, deviceIn, isState}
+use Rattle.board.specs.Board.{on, openedOn, Unchanged}
 
 -- a refused outcome leaves what was lent
 abbrev Keeps : Lent → Outcome → Type 0

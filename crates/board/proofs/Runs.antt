@@ -34,7 +34,9 @@ use Rattle.promises.proofs.Harmless.{harmless}
 use Rattle.promises.proofs.Opening.{is-opened, opens}
 use Rattle.promises.proofs.Answers.{next-stands, answers}
 use Rattle.promises.proofs.Carried.{sum-of-bytes, larger-queue}
-use Rattle.board.specs.Board.{stateSize, stateBytes, word, deviceIn, isState, on, openedOn, left, lookNumberOn}
+use Rattle.kept.specs.State.{stateSize, stateBytes, word, deviceIn, isState}
+use Rattle.kept.specs.Handing.{left}
+use Rattle.board.specs.Board.{on, openedOn, lookNumberOn}
 use Rattle.board.specs.Runs.{borrowed, called, BoardRun, asRun, calledNext, next, run, started, Answered}
 use Rattle.board.proofs.Blind.{blind, reads-only}
 use Rattle.board.proofs.Words.{stands-back}

@@ -24,7 +24,9 @@ use Rattle.recorder.specs.declared.Answer.{Answer}
 use Rattle.recorder.specs.declared.Record.{Record}
 use Rattle.recorder.specs.declared.Taken.{Taken}
 use Rattle.recorder.specs.declared.Through.{Through}
-use Rattle.board.specs.Board.{stateBytes, deviceIn, isState, on, openedOn, left, Left, lookNumberOn, Called, QueueCalled, AbortCalled, TakeCalled}
+use Rattle.kept.specs.State.{stateBytes, deviceIn, isState}
+use Rattle.kept.specs.Handing.{left, Left}
+use Rattle.board.specs.Board.{on, openedOn, lookNumberOn, Called, QueueCalled, AbortCalled, TakeCalled}
 use Rattle.board.specs.Board.{RecordCalled, TextCalled, SendCalled, SendTextCalled, PrintCalled, CountCalled, LookCalled}
 
 -- a choice has what both its arms have

@@ -29,8 +29,8 @@ use Rattle.model.specs.Outbox.{Outbox}
 use Rattle.model.specs.Box.{Box}
 use Rattle.promises.specs.Typed.{Word}
 use Rattle.promises.specs.Stands.{All, Receives, Register, Sends, Stands}
-use Rattle.board.specs.Board.{rest, numbers, words, stateBytes, word, deviceIn, isState}
-use Rattle.board.proofs.State.{word-words, device-back}
+use Rattle.kept.specs.State.{rest, numbers, words, stateBytes, word, deviceIn, isState}
+use Rattle.kept.proofs.RoundTrip.{word-words, device-back}
 
 -- ---- lists of 32-bit numbers
 

@@ -1,84 +1,18 @@
--- The device kept in lent bytes, and what each call over them answers and leaves: the recorder's own outcomes.
-use Prim.Native.Nat.{ℕ, _+_, _*_}
+-- What each call over the bytes of a kept device answers and leaves: the recorder's own outcomes.
+use Prim.Native.Nat.{ℕ}
 use mathlib.Core.Path.{_≡_}
-use mathlib.Core.Bool.{Bool, _&&_}
-use mathlib.Core.List.{List, [], _∷_, _++_}
+use mathlib.Core.List.{List, []}
 use lib.ListN.{length}
-use lib.Seq.{slice}
-use lib.Dec.{leb, eqb}
+use lib.Dec.{eqb}
 use Rattle.common.specs.Choice.{pick}
-use Rattle.common.specs.Numbers.{bytesOf, numberOf}
-use Rattle.common.specs.Refusals.{isRefusal}
-use Rattle.records.specs.declared.Message.{Message}
-use Rattle.settings.specs.declared.Shared.{Shared}
 use Rattle.settings.specs.declared.Settings.{Settings}
-use Rattle.queue.specs.Queue.{moved, lookedAt}
-use Rattle.queue.specs.declared.Receive.{Receive}
-use Rattle.outbox.specs.declared.Send.{Send}
-use Rattle.recorder.specs.State.{noDevice, withReceive}
+use Rattle.queue.specs.Queue.{lookedAt}
+use Rattle.recorder.specs.State.{noDevice}
 use Rattle.recorder.specs.Outcomes.{Lent, Outcome, lends, refuses}
 use Rattle.recorder.specs.Receiving.{opened, lookSaid}
 use Rattle.recorder.specs.declared.Device.{Device}
-
--- the bytes of a state: twenty numbers of four bytes, then the register's eight data bytes
-abbrev pub stateSize : ℕ
-stateSize = 88
-
--- the first twelve numbers, in their order
-abbrev pub front : Shared → Receive → ℕ → List ℕ
-front s r tx =
-    s .mode ∷ s .format ∷ s .align
-    ∷ r .filter .active ∷ r .filter .code ∷ r .filter .mask ∷ r .events ∷ r .ring .capacity ∷ r .ring .first ∷ r .ring .count ∷ r .pending
-    ∷ tx ∷ []
-
--- the other eight; whether the register holds a message is 1 or 0
-abbrev pub rest : Send → List ℕ
-rest s =
-    s .ring .capacity ∷ s .ring .first ∷ s .ring .count
-    ∷ pick (s .held) 1 0 ∷ s .message .header .id ∷ s .message .header .format ∷ s .message .header .rtr ∷ s .message .header .dlc
-    ∷ []
-
--- all twenty
-abbrev pub numbers : Device → List ℕ
-numbers d = front (d .shared) (d .receive) (d .send .tx) ++ rest (d .send)
-
--- numbers one behind the other, each as four bytes, lowest first
-abbrev pub words : List ℕ → List ℕ
-words [] = []
-words (n ∷ ns) = bytesOf 4 n ++ words ns
-
--- a device's 88 bytes
-unfoldable pub stateBytes : Device → List ℕ
-stateBytes d = words (numbers d) ++ d .send .message .bytes
-
--- number k of a state, counted from 0
-unfoldable pub word : List ℕ → ℕ → ℕ
-word s k = numberOf (slice (4 * k) (4 * k + 4) s)
-
--- the device that 88 bytes stand for
-unfoldable pub deviceIn : List ℕ → Device
-deviceIn s = record {
-  shared = record { mode = word s 0; format = word s 1; align = word s 2 };
-  receive = record {
-    filter = record { active = word s 3; code = word s 4; mask = word s 5 };
-    events = word s 6;
-    ring = record { capacity = word s 7; first = word s 8; count = word s 9 };
-    pending = word s 10;
-  };
-  send = record {
-    tx = word s 11;
-    ring = record { capacity = word s 12; first = word s 13; count = word s 14 };
-    held = eqb (word s 15) 1;
-    message = record {
-      header = record { id = word s 16; format = word s 17; rtr = word s 18; dlc = word s 19 };
-      bytes = slice 80 88 s;
-    };
-  };
-}
-
--- bytes that are a state: 88 of them, and the register held or not; what else no device can have is the recorder's to judge
-unfoldable pub isState : List ℕ → Bool
-isState s = eqb (length s) stateSize && leb (word s 15) 1
+use Rattle.kept.specs.State.{stateSize, stateBytes, deviceIn, isState}
+use Rattle.kept.specs.Handing.{left}
 
 -- a call on the device that the state stands for: the recorder's outcome, or 2 for bytes that are no state
 unfoldable pub on : (Device → Lent → Outcome) → List ℕ → Lent → Outcome
@@ -90,20 +24,6 @@ openedOn given s l =
     pick (eqb (opened given l .number) 0)
     (pick (eqb (length s) stateSize) (opened given l) (refuses 2 noDevice l))
     (opened given l)
-
--- what stands in a lent place after a call that answers n: beside a refusal what stood there, else the new
-abbrev pub left : {A : Type 0} → ℕ → A → A → A
-left n old new = pick (isRefusal n) old new
-
--- the device with its event queue moved: first, count and pending of another
-abbrev pub queueMoved : Device → Receive → Device
-queueMoved d r =
-    withReceive d (moved (d .receive) (record { capacity = d .receive .ring .capacity; first = r .ring .first; count = r .ring .count }) (r .pending))
-
--- what keeping a device beside a number promises of the state s
-pub record Left (number : ℕ) (d : Device) (s : List ℕ) (n : ℕ) (state : List ℕ) : Type 0 where
-  pub number-is : n ≡ number
-  pub state-bytes : state ≡ left number s (stateBytes d)
 
 -- settings as opening is given them
 abbrev pub settings : ℕ → ℕ → ℕ → ℕ → ℕ → ℕ → ℕ → ℕ → ℕ → ℕ → Settings
@@ -119,10 +39,6 @@ settings mode format align active code mask events slots tx places = record {
   tx = tx;
   buffer = places;
 }
-
--- a message as a call is given it
-abbrev pub message : ℕ → ℕ → ℕ → ℕ → List ℕ → Message
-message id format rtr dlc bytes = record { header = record { id = id; format = format; rtr = rtr; dlc = dlc }; bytes = bytes }
 
 -- what every call promises that can change the state s: its number, and every byte of the state
 pub record Called (o : Outcome) (s : List ℕ) (n : ℕ) (state : List ℕ) : Type 0 where

@@ -13,7 +13,9 @@ use Rattle.promises.specs.Typed.{Made}
 use Rattle.promises.specs.Calls.{outcome}
 use Rattle.promises.specs.Runs.{Run, readOut}
 use Rattle.promises.specs.Stands.{Says}
-use Rattle.board.specs.Board.{stateBytes, deviceIn, on, openedOn, left}
+use Rattle.kept.specs.State.{stateBytes, deviceIn}
+use Rattle.kept.specs.Handing.{left}
+use Rattle.board.specs.Board.{on, openedOn}
 
 -- what an sv_ call is lent beside the state, which it may write or only read
 pub record Borrows : Type 0 where

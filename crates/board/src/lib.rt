@@ -1,6 +1,5 @@
 // The C interface: every public call of the recorder, over a device that is kept in 88 lent bytes.
 mod changes;
-mod kept;
 mod opening;
 mod printing;
 mod receiving;

@@ -1,5 +1,4 @@
 // Opening a device into a state.
-use crate::kept;
 use settings::Settings;
 ghost use mathlib.Core.List.{[]};
 ghost use Rattle.recorder.specs.Outcomes.{lends};
@@ -41,10 +40,10 @@ pub extern "C" fn sv_open(
     if r.number != 0 {
         return r.number;
     }
-    if state.len() != kept::STATE {
+    if state.len() != kept::state::STATE {
         return 2;
     }
     let d = r.device;
-    kept::write_state(state, d);
+    kept::state::write_state(state, d);
     0
 }

@@ -1,9 +1,9 @@
 // The print calls: they take Align from the channel and change no state.
-use crate::kept;
 ghost use mathlib.Core.List.{[]};
 ghost use Rattle.recorder.specs.Outcomes.{lends};
 ghost use Rattle.recorder.specs.Printing.{messageRecordPrinted, eventRecordPrinted, messagePrinted};
-ghost use Rattle.board.specs.Board.{on, message, PrintCalled};
+ghost use Rattle.kept.specs.Handing.{message};
+ghost use Rattle.board.specs.Board.{on, PrintCalled};
 
 // Prints a message record.
 #[no_mangle]
@@ -16,12 +16,12 @@ pub extern "C" fn sv_print_message_record(
     ensures { λ n. ⌜ PrintCalled (on (messageRecordPrinted (now (s .entry))) (now (state .entry)) (lends [] [] (now (out .entry))))
         (now (length .entry)) n (now (out .exit)) (now (length .exit)) ⌝ }
 {
-    if !kept::is_state(state) {
+    if !kept::state::is_state(state) {
         return 2;
     }
-    let d = kept::device_in(state);
+    let d = kept::state::device_in(state);
     let r = recorder::printing::print_message_record(d, s, out);
-    kept::hand(length, r.number, r.length);
+    kept::handing::hand(length, r.number, r.length);
     r.number
 }
 
@@ -36,12 +36,12 @@ pub extern "C" fn sv_print_event_record(
     ensures { λ n. ⌜ PrintCalled (on (eventRecordPrinted (now (s .entry))) (now (state .entry)) (lends [] [] (now (out .entry))))
         (now (length .entry)) n (now (out .exit)) (now (length .exit)) ⌝ }
 {
-    if !kept::is_state(state) {
+    if !kept::state::is_state(state) {
         return 2;
     }
-    let d = kept::device_in(state);
+    let d = kept::state::device_in(state);
     let r = recorder::printing::print_event_record(d, s, out);
-    kept::hand(length, r.number, r.length);
+    kept::handing::hand(length, r.number, r.length);
     r.number
 }
 
@@ -60,12 +60,12 @@ pub extern "C" fn sv_print_message(
     ensures { λ n. ⌜ PrintCalled (on (messagePrinted (message id format rtr dlc (now (bytes .entry)))) (now (state .entry)) (lends [] [] (now (out .entry))))
         (now (length .entry)) n (now (out .exit)) (now (length .exit)) ⌝ }
 {
-    if !kept::is_state(state) {
+    if !kept::state::is_state(state) {
         return 2;
     }
-    let d = kept::device_in(state);
-    let m = kept::message(id, format, rtr, dlc, bytes);
+    let d = kept::state::device_in(state);
+    let m = kept::handing::message(id, format, rtr, dlc, bytes);
     let r = recorder::printing::print_message(d, m, out);
-    kept::hand(length, r.number, r.length);
+    kept::handing::hand(length, r.number, r.length);
     r.number
 }

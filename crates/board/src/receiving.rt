@@ -1,11 +1,11 @@
 // Raising, reading and looking.
-use crate::kept;
 use common::rings;
 ghost use mathlib.Core.Path.{_≡_};
 ghost use mathlib.Core.List.{[]};
 ghost use Rattle.recorder.specs.Outcomes.{lends};
 ghost use Rattle.recorder.specs.Receiving.{raised, recordRead, textRead, through};
-ghost use Rattle.board.specs.Board.{on, message, lookNumberOn, QueueCalled, RecordCalled, TextCalled, LookCalled, CountCalled};
+ghost use Rattle.kept.specs.Handing.{message};
+ghost use Rattle.board.specs.Board.{on, lookNumberOn, QueueCalled, RecordCalled, TextCalled, LookCalled, CountCalled};
 
 // Raises an event.
 #[no_mangle]
@@ -23,13 +23,13 @@ pub extern "C" fn sv_raise(
     ensures { λ n. ⌜ QueueCalled (on (raised code tick (message id format rtr dlc (now (bytes .entry)))) (now (state .entry)) (lends (now (queue .entry)) [] []))
         (now (state .entry)) n (now (state .exit)) (now (queue .exit)) ⌝ }
 {
-    if !kept::is_state(state) {
+    if !kept::state::is_state(state) {
         return 2;
     }
-    let d = kept::device_in(state);
-    let m = kept::message(id, format, rtr, dlc, bytes);
+    let d = kept::state::device_in(state);
+    let m = kept::handing::message(id, format, rtr, dlc, bytes);
     let r = recorder::receiving::raise(d, code, tick, m, queue);
-    kept::leave_queue(state, r.number, r.device)
+    kept::handing::leave_queue(state, r.number, r.device)
 }
 
 // Reads the oldest event as its 32 bytes.
@@ -38,14 +38,14 @@ pub extern "C" fn sv_read_record(state: &mut [u8], queue: &[u8], out: &mut [u8; 
     ensures { λ n. ⌜ RecordCalled (on recordRead (now (state .entry)) (lends (now (queue .entry)) [] []))
         (now (state .entry)) (now (out .entry)) n (now (state .exit)) (now (out .exit)) ⌝ }
 {
-    if !kept::is_state(state) {
+    if !kept::state::is_state(state) {
         return 2;
     }
-    let d = kept::device_in(state);
+    let d = kept::state::device_in(state);
     let r = recorder::receiving::read_record(d, queue);
     let b = r.bytes;
-    kept::hand_event(out, r.number, b);
-    kept::leave_queue(state, r.number, r.device)
+    kept::handing::hand_event(out, r.number, b);
+    kept::handing::leave_queue(state, r.number, r.device)
 }
 
 // Reads the oldest event as text.
@@ -59,13 +59,13 @@ pub extern "C" fn sv_read_text(
     ensures { λ n. ⌜ TextCalled (on textRead (now (state .entry)) (lends (now (queue .entry)) [] (now (out .entry)))) (now (state .entry))
         (now (length .entry)) n (now (state .exit)) (now (out .exit)) (now (length .exit)) ⌝ }
 {
-    if !kept::is_state(state) {
+    if !kept::state::is_state(state) {
         return 2;
     }
-    let d = kept::device_in(state);
+    let d = kept::state::device_in(state);
     let r = recorder::receiving::read_text(d, queue, out);
-    kept::hand(length, r.number, r.value);
-    kept::leave_queue(state, r.number, r.device)
+    kept::handing::hand(length, r.number, r.value);
+    kept::handing::leave_queue(state, r.number, r.device)
 }
 
 // The number of a look at position p.
@@ -73,10 +73,10 @@ pub extern "C" fn sv_read_text(
 pub extern "C" fn sv_look_number(state: &[u8], queue: &[u8], p: u32) -> u32
     ensures { λ n. ⌜ n ≡ lookNumberOn p (now (state .entry)) (now (queue .entry)) ⌝ }
 {
-    if !kept::is_state(state) {
+    if !kept::state::is_state(state) {
         return 2;
     }
-    let d = kept::device_in(state);
+    let d = kept::state::device_in(state);
     recorder::receiving::look_number(d, queue, p)
 }
 
@@ -85,10 +85,10 @@ pub extern "C" fn sv_look_number(state: &[u8], queue: &[u8], p: u32) -> u32
 pub extern "C" fn sv_look(state: &[u8], queue: &[u8], p: u32, offset: &mut usize) -> u32
     ensures { λ n. ⌜ LookCalled p (now (state .entry)) (now (queue .entry)) (now (offset .entry)) n (now (offset .exit)) ⌝ }
 {
-    if !kept::is_state(state) {
+    if !kept::state::is_state(state) {
         return 2;
     }
-    let d = kept::device_in(state);
+    let d = kept::state::device_in(state);
     let number = recorder::receiving::look_number(d, queue, p);
     if number != 0 {
         return number;
@@ -104,11 +104,11 @@ pub extern "C" fn sv_look(state: &[u8], queue: &[u8], p: u32, offset: &mut usize
 pub extern "C" fn sv_identifiers_through(state: &[u8], format: u32, count: &mut u32) -> u32
     ensures { λ n. ⌜ CountCalled (on (through format) (now (state .entry)) (lends [] [] [])) (now (count .entry)) n (now (count .exit)) ⌝ }
 {
-    if !kept::is_state(state) {
+    if !kept::state::is_state(state) {
         return 2;
     }
-    let d = kept::device_in(state);
+    let d = kept::state::device_in(state);
     let r = recorder::receiving::identifiers_through(d, format);
-    kept::hand_number(count, r.number, r.count);
+    kept::handing::hand_number(count, r.number, r.count);
     r.number
 }

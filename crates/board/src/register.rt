@@ -1,5 +1,4 @@
 // The transmit register: take, done and abort.
-use crate::kept;
 ghost use mathlib.Core.List.{[]};
 ghost use Rattle.recorder.specs.Outcomes.{lends};
 ghost use Rattle.recorder.specs.Sending.{taken, finished, aborted};
@@ -17,14 +16,14 @@ pub extern "C" fn sv_take(
     ensures { λ n. ⌜ TakeCalled (on (taken tick) (now (state .entry)) (lends (now (queue .entry)) (now (send .entry)) []))
         (now (state .entry)) (now (out .entry)) n (now (state .exit)) (now (queue .exit)) (now (out .exit)) ⌝ }
 {
-    if !kept::is_state(state) {
+    if !kept::state::is_state(state) {
         return 2;
     }
-    let d = kept::device_in(state);
+    let d = kept::state::device_in(state);
     let r = recorder::register::take(d, tick, send, queue);
     let b = r.bytes;
-    kept::hand_message(out, r.number, b);
-    kept::leave(state, r.number, r.device)
+    kept::handing::hand_message(out, r.number, b);
+    kept::handing::leave(state, r.number, r.device)
 }
 
 // Empties the register: its message was transmitted.
@@ -32,12 +31,12 @@ pub extern "C" fn sv_take(
 pub extern "C" fn sv_done(state: &mut [u8], tick: u32, queue: &mut [u8]) -> u32
     ensures { λ n. ⌜ QueueCalled (on (finished tick) (now (state .entry)) (lends (now (queue .entry)) [] [])) (now (state .entry)) n (now (state .exit)) (now (queue .exit)) ⌝ }
 {
-    if !kept::is_state(state) {
+    if !kept::state::is_state(state) {
         return 2;
     }
-    let d = kept::device_in(state);
+    let d = kept::state::device_in(state);
     let r = recorder::register::done(d, tick, queue);
-    kept::leave(state, r.number, r.device)
+    kept::handing::leave(state, r.number, r.device)
 }
 
 // Empties the register and purges the buffer; hands back how many were purged.
@@ -46,13 +45,13 @@ pub extern "C" fn sv_abort(state: &mut [u8], tick: u32, queue: &mut [u8], purged
     ensures { λ n. ⌜ AbortCalled (on (aborted tick) (now (state .entry)) (lends (now (queue .entry)) [] []))
         (now (state .entry)) (now (purged .entry)) n (now (state .exit)) (now (queue .exit)) (now (purged .exit)) ⌝ }
 {
-    if !kept::is_state(state) {
+    if !kept::state::is_state(state) {
         return 2;
     }
-    let d = kept::device_in(state);
+    let d = kept::state::device_in(state);
     let channel = d.send;
     let ring = channel.ring;
     let r = recorder::register::abort(d, tick, queue);
-    kept::hand_number(purged, r.number, ring.count);
-    kept::leave(state, r.number, r.device)
+    kept::handing::hand_number(purged, r.number, ring.count);
+    kept::handing::leave(state, r.number, r.device)
 }

@@ -1,9 +1,9 @@
 // Sending a message, binary or as text.
-use crate::kept;
 ghost use mathlib.Core.List.{[]};
 ghost use Rattle.recorder.specs.Outcomes.{lends};
 ghost use Rattle.recorder.specs.Sending.{sent, textSent};
-ghost use Rattle.board.specs.Board.{on, message, SendCalled, SendTextCalled};
+ghost use Rattle.kept.specs.Handing.{message};
+ghost use Rattle.board.specs.Board.{on, SendCalled, SendTextCalled};
 
 // Sends a message given in binary.
 #[no_mangle]
@@ -19,13 +19,13 @@ pub extern "C" fn sv_send(
     ensures { λ n. ⌜ SendCalled (on (sent (message id format rtr dlc (now (bytes .entry)))) (now (state .entry)) (lends [] (now (send .entry)) []))
         (now (state .entry)) n (now (state .exit)) (now (send .exit)) ⌝ }
 {
-    if !kept::is_state(state) {
+    if !kept::state::is_state(state) {
         return 2;
     }
-    let d = kept::device_in(state);
-    let m = kept::message(id, format, rtr, dlc, bytes);
+    let d = kept::state::device_in(state);
+    let m = kept::handing::message(id, format, rtr, dlc, bytes);
     let r = recorder::sending::send(d, m, send);
-    kept::leave(state, r.number, r.device)
+    kept::handing::leave(state, r.number, r.device)
 }
 
 // Sends the message at the front of a text; the bytes used are answered at every call.
@@ -39,12 +39,12 @@ pub extern "C" fn sv_send_text(
     ensures { λ n. ⌜ SendTextCalled (on (textSent (now (text .entry))) (now (state .entry)) (lends [] (now (send .entry)) []))
         (now (state .entry)) n (now (state .exit)) (now (send .exit)) (now (used .exit)) ⌝ }
 {
-    if !kept::is_state(state) {
+    if !kept::state::is_state(state) {
         *used = 0;
         return 2;
     }
-    let d = kept::device_in(state);
+    let d = kept::state::device_in(state);
     let r = recorder::sending::send_text(d, text, send);
     *used = r.value;
-    kept::leave(state, r.number, r.device)
+    kept::handing::leave(state, r.number, r.device)
 }

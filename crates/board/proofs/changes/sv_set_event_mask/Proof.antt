@@ -1,6 +1,6 @@
 use Rattle.board.proofs.Ways.{not-called, called}
 use Rattle.recorder.specs.Receiving.{eventMaskSet}
-use Rattle.board.proofs.Laws.{state-long}
+use Rattle.kept.proofs.Laws.{state-long}
 use Rattle.recorder.specs.Outcomes.{lends}
 use Rattle.common.proofs.Bools.{said, denied}
 use mathlib.Core.List.{[]}

@@ -1,7 +1,7 @@
 use Rattle.board.proofs.Ways.{not-look, look-taken, look-refused, look-shown}
 use Rattle.queue.proofs.Laws.{ring-of, look-good}
 use native.Mathlib.Omega.{arith}
-use Rattle.board.proofs.Laws.{state-long}
+use Rattle.kept.proofs.Laws.{state-long}
 use Rattle.common.proofs.Bools.{said, denied}
 use mathlib.Core.Path.{sym, _∙_}
 use denote.Ref.{now}

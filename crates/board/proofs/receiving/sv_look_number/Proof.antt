@@ -1,5 +1,5 @@
 use Rattle.board.proofs.Ways.{not-look-number, look-number}
-use Rattle.board.proofs.Laws.{state-long}
+use Rattle.kept.proofs.Laws.{state-long}
 use Rattle.common.proofs.Bools.{said, denied}
 use denote.Ref.{now}
 use borrow.Author.Needs.{needs}

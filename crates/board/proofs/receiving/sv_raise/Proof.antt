@@ -1,8 +1,8 @@
-use Rattle.board.proofs.Moves.{raise-moves, answer-moves}
-use Rattle.board.specs.Board.{message}
+use Rattle.kept.proofs.Moves.{raise-moves, answer-moves}
+use Rattle.kept.specs.Handing.{message}
 use Rattle.board.proofs.Ways.{not-queue, queue-called}
 use Rattle.recorder.specs.Receiving.{raised}
-use Rattle.board.proofs.Laws.{state-long}
+use Rattle.kept.proofs.Laws.{state-long}
 use Rattle.recorder.specs.Outcomes.{lends}
 use Rattle.common.proofs.Bools.{said, denied}
 use mathlib.Core.List.{[]}

@@ -1,7 +1,7 @@
-use Rattle.board.proofs.Moves.{record-moves, bytes-moves}
+use Rattle.kept.proofs.Moves.{record-moves, bytes-moves}
 use Rattle.board.proofs.Ways.{not-record, record-called}
 use Rattle.recorder.specs.Receiving.{recordRead}
-use Rattle.board.proofs.Laws.{state-long}
+use Rattle.kept.proofs.Laws.{state-long}
 use Rattle.recorder.specs.Outcomes.{lends}
 use Rattle.common.proofs.Bools.{said, denied}
 use mathlib.Core.List.{[]}

@@ -1,7 +1,7 @@
-use Rattle.board.proofs.Moves.{text-moves, answer-moves}
+use Rattle.kept.proofs.Moves.{text-moves, answer-moves}
 use Rattle.board.proofs.Ways.{not-text, text-called}
 use Rattle.recorder.specs.Receiving.{textRead}
-use Rattle.board.proofs.Laws.{state-long}
+use Rattle.kept.proofs.Laws.{state-long}
 use Rattle.recorder.specs.Outcomes.{lends}
 use Rattle.common.proofs.Bools.{said, denied}
 use mathlib.Core.List.{[]}

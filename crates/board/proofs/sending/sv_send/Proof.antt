@@ -1,7 +1,7 @@
-use Rattle.board.specs.Board.{message}
+use Rattle.kept.specs.Handing.{message}
 use Rattle.board.proofs.Ways.{not-send, send-called}
 use Rattle.recorder.specs.Sending.{sent}
-use Rattle.board.proofs.Laws.{state-long}
+use Rattle.kept.proofs.Laws.{state-long}
 use Rattle.recorder.specs.Outcomes.{lends}
 use Rattle.common.proofs.Bools.{said, denied}
 use mathlib.Core.List.{[]}
