@@ -13,22 +13,16 @@ use Rattle.ids.specs.EventMask.{isMask}
 use Rattle.records.specs.Events.{isEvent}
 use Rattle.records.specs.Raised.{frameRefusal}
 use Rattle.records.specs.declared.Message.{Message}
-use Rattle.records.specs.declared.Event.{Event}
 use Rattle.event_text.specs.Lines.{eventRoom}
-use Rattle.message_text.specs.Reading.{readMessage}
-use Rattle.message_text.specs.declared.Answer.{Answer}
-use Rattle.message_text.specs.declared.Answer.the-variants.{Taken, Refused}
-use Rattle.message_text.specs.declared.Said.{Said}
-use Rattle.settings.specs.Ranges.{goodShared, formatOf}
-use Rattle.settings.specs.Binary.{binaryRefusal, sentMessage}
-use Rattle.settings.specs.TxMode.{raisesAtTake, raisesAtDone}
+use Rattle.settings.specs.Ranges.{goodShared}
 use Rattle.settings.specs.declared.Shared.{Shared}
-use Rattle.queue.specs.Queue.{slotAt}
-use Rattle.outbox.specs.Outbox.{sending, taking}
+use Rattle.queue.specs.Queue.{goodReceive, usable, slotAt}
+use Rattle.outbox.specs.Refusals.{doneRefusal, abortRefusal}
+use Rattle.outbox.specs.Calls as Outbox
 use Rattle.recorder.specs.State.{good}
-use Rattle.recorder.specs.Outcomes.{Lent, Outcome, queueReady, sendReady, bothReady, ends, noted, notedIf}
+use Rattle.recorder.specs.Outcomes.{Lent, Outcome, queueReady, noted}
 use Rattle.recorder.specs.Receiving.{changed, filterSet, eventMaskSet, raised, recordRead, textRead, lookSaid, through}
-use Rattle.recorder.specs.Sending.{put, sent, putSaid, textSent, taken, finished, aborted}
+use Rattle.recorder.specs.Sending.{carrying, sent, textSent, taken, finished, aborted}
 use Rattle.recorder.specs.Printing.{linePrinted}
 use Rattle.recorder.specs.declared.Device.{Device}
 use Rattle.model.specs.Inbox.{readRecord, readText, look, setFilter, setEventMask, identifiersThrough}
@@ -43,6 +37,10 @@ both : (f : Outcome → Outcome) (c : Bool) {a b u v : Outcome} → f a ≡ u �
 both f true x y = x
 both f false x y = y
 
+-- an outcome of the outbox with another message table
+abbrev onTableOf : Outbox.Outcome → List ℕ → Outbox.Outcome
+onTableOf o t = Outbox.ends (o .number) (o .value) (o .bytes) (o .send) t (o .raised)
+
 module _ (d : Device) (l : Lent) where
   -- an outcome over what a call is lent is the outcome over everything
   abbrev Blind : Borrows → (Lent → Outcome) → Type 0
@@ -56,11 +54,6 @@ module _ (d : Device) (l : Lent) where
 
   abbrev Q : Outcome → Outcome
   Q o = whole onQueue l o
-
-  -- an event that is raised meets the event table alone
-  noted-blind : (c : Bool) (e : Event) (n : ℕ) (o : Device) → Blind onQueue (λ m. notedIf c e (ends 0 n [] o m))
-  unfolding noted
-  noted-blind c e n o = both Q c refl refl
 
   -- a change of mode or format
   changed-blind : (s : Shared) (tick : ℕ) → Blind onQueue (changed s tick d)
@@ -77,16 +70,30 @@ module _ (d : Device) (l : Lent) where
   unfolding recordRead
   record-blind = both Q (queueReady d l) refl refl
 
+  -- the register is emptied, or not: the message table stays
+  emptied-blind : (n : ℕ) (effect : List ℕ → Outbox.Outcome) → ((t : List ℕ) → effect t ≡ onTableOf (effect []) t)
+      → Blind onQueue (λ m. carrying (Outbox.settled n 0 [] (d .send) (m .send) (effect (m .send))) d m)
+  emptied-blind n effect e = by (eqb n 0)
+    where
+      by : (c : Bool)
+          → Q (carrying (pick c (effect []) (Outbox.refused n 0 [] (d .send) [])) d (lentTo onQueue l))
+          ≡ carrying (pick c (effect (l .send)) (Outbox.refused n 0 [] (d .send) (l .send))) d l
+      by true = rw (e (l .send))
+      by false = refl
+
   -- done
   done-blind : (tick : ℕ) → Blind onQueue (finished tick d)
-  unfolding finished
+  unfolding finished Outbox.finished
   done-blind tick =
-      both Q (queueReady d l) (both Q (d .send .held) (noted-blind (raisesAtDone (d .send .tx)) _ 0 _) refl) refl
+      both Q (usable (d .receive) (l .queue))
+      (emptied-blind (doneRefusal (d .shared) (d .send)) (Outbox.finishes (d .send) tick) (λ t. refl)) refl
 
   -- abort
   abort-blind : (tick : ℕ) → Blind onQueue (aborted tick d)
-  unfolding aborted
-  abort-blind tick = both Q (queueReady d l) (noted-blind (d .send .held) _ (d .send .ring .count) _) refl
+  unfolding aborted Outbox.aborted
+  abort-blind tick =
+      both Q (usable (d .receive) (l .queue))
+      (emptied-blind (abortRefusal (d .shared) (d .send)) (Outbox.aborts (d .send) tick) (λ t. refl)) refl
 
   -- ---- and the output buffer, or the message table
 
@@ -102,12 +109,8 @@ module _ (d : Device) (l : Lent) where
 
   -- take: both tables
   take-blind : (tick : ℕ) → Blind (borrows true true true false) (taken tick d)
-  unfolding taken noted
-  take-blind tick =
-      let f : Outcome → Outcome = λ o. whole (borrows true true true false) l o in
-      both f (bothReady d l)
-      (both f (eqb (taking (d .send) (l .send) .number) 0) (both f (raisesAtTake (d .send .tx)) refl refl) refl)
-      refl
+  unfolding taken
+  take-blind tick = both (λ o. whole (borrows true true true false) l o) (usable (d .receive) (l .queue)) refl refl
 
   -- ---- the calls that see the message table
 
@@ -118,34 +121,15 @@ module _ (d : Device) (l : Lent) where
   abbrev S : Outcome → Outcome
   S o = whole onTable l o
 
-  -- a message is put in
-  put-blind : (m : Message) (n : ℕ) → Blind onTable (put m n d)
-  unfolding put
-  put-blind m n = both S (eqb (sending (d .send) m (l .send) .number) 0) refl refl
-
   -- a binary send
   send-blind : (m : Message) → Blind onTable (sent m d)
   unfolding sent
-  send-blind m =
-      both S (sendReady d l)
-      (both S (eqb (binaryRefusal (d .shared) m) 0) (put-blind (sentMessage (d .shared) m) 0) refl)
-      refl
-
-  -- what a text says is put in
-  said-blind : (s : Said) → Blind onTable (putSaid s d)
-  said-blind s = by (s .answer) refl
-    where
-      by : (a : Answer) → s .answer ≡ a → Blind onTable (putSaid s d)
-      by (Taken h used) x = rw x (put-blind (record { header = h; bytes = s .bytes }) used)
-      by (Refused n used) x = rw x
+  send-blind m = both S (goodReceive (d .receive)) refl refl
 
   -- a text send
   send-text-blind : (text : List ℕ) → Blind onTable (textSent text d)
   unfolding textSent
-  send-text-blind text =
-      both S (sendReady d l)
-      (said-blind (readMessage (d .shared .align) (formatOf (d .shared) (d .shared .format)) text))
-      refl
+  send-text-blind text = both S (goodReceive (d .receive)) refl refl
 
   -- ---- the calls that see the output buffer, or nothing lent
 

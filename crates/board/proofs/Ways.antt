@@ -14,11 +14,13 @@ use Rattle.records.specs.Events.{eventSize}
 use Rattle.digits.specs.declared.Printed.{Printed}
 use Rattle.settings.specs.declared.Settings.{Settings}
 use Rattle.queue.specs.Queue.{usable, queueFits, lookNumber, lookedAt}
-use Rattle.outbox.specs.Outbox.{sendFits}
+use Rattle.outbox.specs.Channel.{sendFits}
+use Rattle.outbox.specs.Refusals.{possible, abortRefusal}
+use Rattle.outbox.specs.Calls as Outbox
 use Rattle.recorder.specs.State.{good, fresh, noDevice}
-use Rattle.recorder.specs.Outcomes.{Lent, Outcome, lends, refuses, answerOf, recordOf, throughOf, queueReady, noted, QueueMet, SendMet, OutMet, TakeMet, PrintMet}
+use Rattle.recorder.specs.Outcomes.{Lent, Outcome, lends, refuses, answerOf, recordOf, throughOf, QueueMet, SendMet, OutMet, TakeMet, PrintMet}
 use Rattle.recorder.specs.Receiving.{opened, lookSaid}
-use Rattle.recorder.specs.Sending.{aborted}
+use Rattle.recorder.specs.Sending.{carrying, aborted}
 use Rattle.recorder.specs.declared.Device.{Device}
 use Rattle.recorder.specs.declared.Answer.{Answer}
 use Rattle.recorder.specs.declared.Record.{Record}
@@ -144,11 +146,15 @@ module _ (call : Device → Lent → Outcome) (s : List ℕ) (l : Lent) where
 
 -- beside an abort that is not refused the value is the count that the buffer had
 abort-value : (tick : ℕ) (d : Device) (l : Lent) (was : ℕ) → left (aborted tick d l .number) was (d .send .ring .count) ≡ left (aborted tick d l .number) was (aborted tick d l .value)
-unfolding aborted noted isRefusal
-abort-value tick d l was = both P (queueReady d l) _ _ (both P (d .send .held) _ _ refl refl) refl
+unfolding aborted Outbox.aborted abortRefusal isRefusal
+abort-value tick d l was =
+    both P (usable (d .receive) (l .queue)) _ _ (both By (possible (d .shared) (d .send)) 0 2 refl refl) refl
   where
     P : Outcome → Type 0
     P o = left (o .number) was (d .send .ring .count) ≡ left (o .number) was (o .value)
+
+    By : ℕ → Type 0
+    By n = P (carrying (Outbox.settled n 0 [] (d .send) (l .send) (Outbox.aborts (d .send) tick (l .send))) d l)
 
 pub abort-called : (tick : ℕ) (s : List ℕ) (l : Lent) → isState s ≡ true → {d : Device} → d ≡ deviceIn s → {r : Answer} {q t : List ℕ} {n was v : ℕ}
     → QueueMet (aborted tick d l) r q → v ≡ left (r .number) was (d .send .ring .count) → Left (r .number) (r .device) s n t

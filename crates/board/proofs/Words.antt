@@ -21,7 +21,7 @@ use Rattle.settings.specs.TxMode.{goodTx}
 use Rattle.settings.specs.declared.Shared.{Shared}
 use Rattle.queue.specs.Queue.{queueLimit}
 use Rattle.queue.specs.declared.Receive.{Receive}
-use Rattle.outbox.specs.Outbox.{sendLimit}
+use Rattle.outbox.specs.Channel.{sendLimit}
 use Rattle.outbox.specs.declared.Send.{Send}
 use Rattle.recorder.specs.declared.Device.{Device}
 use Rattle.model.specs.Inbox.{Inbox}

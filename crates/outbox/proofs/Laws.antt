@@ -1,24 +1,40 @@
--- What each way through the send buffer's functions shows.
-use mathlib.Core.Path.{_≡_, ap, _∙_}
+-- What a usable send channel says of its parts, and what a call's two ways show.
+use mathlib.Core.Path.{_≡_, refl, sym, ap, subst, _∙_}
 use mathlib.Core.Bool.{Bool, true, false, not, _&&_, _||_}
-use mathlib.Core.List.{List}
+use mathlib.Core.List.{List, []}
 use Prim.Native.Nat.{ℕ, _+_, _-_, _*_, _≤_, _<_}
+use native.Mathlib.Omega.{arith}
 use lib.ListN.{length, take, drop}
-use borrow.Author.Tests.{eq-eqb, ne-eqb, lt-ltb, le-ltb, leb-true}
-use Rattle.common.specs.Slots.{store}
-use Rattle.common.specs.Rings.{goodRing, slotOf, withOneMore}
-use Rattle.common.proofs.Bools.{and-left, and-right, said, denied}
+use lib.Dec.{ltb, eqb}
+use borrow.Author.Tests.{eqb-true, eq-eqb, ne-eqb, leb-true, ltb-true}
+use Rattle.common.specs.Choice.{pick}
+use Rattle.common.specs.Rings.{goodRing, slotOf}
+use Rattle.common.proofs.Bools.{apart, and-left, and-right, said, denied}
+use Rattle.common.proofs.Choices.{by-test, pick-is}
 use Rattle.common.proofs.RingFacts.{RingFacts, good-ring, slot-part}
-use Rattle.records.specs.Messages.{goodMessage, messageBytes, messageIn, isMessage, judgeMessage, messageSize}
+use Rattle.records.specs.Messages.{messageSize, goodMessage, messageIn, isMessage, judgeMessage}
 use Rattle.records.proofs.RoundTrip.{good-is, message-as}
 use Rattle.records.specs.declared.Message.{Message}
 use Rattle.records.specs.declared.JudgedMessage.{JudgedMessage}
-use Rattle.settings.specs.TxMode.{goodTx}
-use Rattle.outbox.specs.Outbox.{sendLimit, goodSend, sendFits, withRing, afterTake, Sending, sends, sending, SendMet, oldest, sent, taking}
+use Rattle.settings.specs.TxMode.{goodTx, raisesAtTake, raisesAtDone}
+use Rattle.settings.specs.Ranges.{goodShared}
+use Rattle.settings.specs.Binary.{binaryRefusal, brought}
+use Rattle.settings.specs.declared.Shared.{Shared}
+use Rattle.settings.specs.declared.Brought.{Brought}
+use Rattle.settings.proofs.Laws.{brought-number, brought-message}
+use Rattle.outbox.specs.Channel.{sendLimit, goodSend, sendFits, oldest}
+use Rattle.outbox.specs.Refusals.{possible, usable, putRefusal, waitRefusal, takeRefusal}
+use Rattle.outbox.specs.Refusals.{notFound, found, doneRefusal, abortRefusal}
+use Rattle.outbox.specs.Calls.{Outcome, raisedIf, refused, settled, sentOf, WriteMet}
+use Rattle.outbox.specs.Calls.{puts, sent, reads, usedBeside, readSent, textSent}
+use Rattle.outbox.specs.Calls.{takes, taken, finishes, finished, aborts, aborted}
+use Rattle.outbox.specs.declared.Raised.{Raised}
 use Rattle.outbox.specs.declared.Send.{Send}
 use Rattle.outbox.specs.declared.Sent.{Sent}
+use Rattle.outbox.specs.declared.Found.{Found}
+use Rattle.outbox.specs.declared.Read.{Read}
 
--- ---- what the two tests for refusal 2 give
+-- ---- what the tests for refusal 2 give
 
 -- a good channel has a good ring
 pub ring-of : (s : Send) → goodSend s ≡ true → RingFacts sendLimit (s .ring)
@@ -38,87 +54,185 @@ pub held-good : (s : Send) (g : Bool) → goodTx (s .tx) ≡ true → goodRing s
 unfolding goodSend
 held-good s g x y h e = rw (x, y, h) e
 
--- ---- putting a message in
+-- a usable channel is good, and its table long enough
+pub judged : (h : Shared) (s : Send) (n : ℕ) → usable h s n ≡ true → (goodSend s ≡ true) × (sendFits s n ≡ true)
+unfolding usable possible
+judged h s n u =
+    let able = and-left (possible h s) (sendFits s n) u in
+    (and-right (goodShared h) (goodSend s) able, and-right (possible h s) (sendFits s n) u)
 
--- a way through a put: what the definition says there, and the code's result and table beside it
-pub met-by : {o : Sending} {r : Sent} {t : List ℕ} (n : ℕ) (next : Send) (table : List ℕ)
-    → o ≡ sends n next table → r ≡ sent n next → t ≡ table → SendMet o r t
-met-by n next table e p q = record { number = cc; send = cc; table = cc }
+-- ---- what a refusal of 0 says
 
-module _ (s : Send) (m : Message) (t : List ℕ) where
-  -- numbers that no channel can have: 2
-  pub bad-channel : goodSend s ≡ false → sending s m t ≡ sends 2 s t
-  unfolding sending
-  bad-channel h = simp h
+-- the test of a choice whose second way is no 0 was passed
+passed : (b : Bool) (n k : ℕ) → eqb k 0 ≡ false → pick b n k ≡ 0 → (b ≡ true) × (n ≡ 0)
+passed true n k z e = (refl, e)
+passed false n k z e = absurd (apart (rw e at z))
 
-  module _ (good : goodSend s ≡ true) where
-    -- a table shorter than the capacity needs: 2
-    pub short-table : sendFits s (length t) ≡ false → sending s m t ≡ sends 2 s t
-    unfolding sending
-    short-table h = simp (good, h)
+-- and likewise where the first way is none
+stopped : (b : Bool) (n k : ℕ) → eqb k 0 ≡ false → pick b k n ≡ 0 → (b ≡ false) × (n ≡ 0)
+stopped true n k z e = absurd (apart (rw e at z))
+stopped false n k z e = (refl, e)
 
-    module _ (fits : sendFits s (length t) ≡ true) where
-      -- no room: 5
-      pub full : s .ring .capacity ≤ s .ring .count → sending s m t ≡ sends 5 s t
-      unfolding sending
-      full h = simp (good, fits, le-ltb _ _ h)
+-- the number tested was 0
+own-zero : (own n : ℕ) → pick (eqb own 0) n own ≡ 0 → (own ≡ 0) × (n ≡ 0)
+own-zero own n e =
+    by-test (eqb own 0) (λ x. (eqb-true own 0 x, rw x at e)) (λ x. absurd (apart (sym (eq-eqb own 0 (rw x at e)) ∙ x)))
 
-      -- room: 0, written behind the newest
-      pub stored-in : s .ring .count < s .ring .capacity
-          → sending s m t
-          ≡ sends 0 (withRing s (withOneMore (s .ring))) (store messageSize t (slotOf (s .ring) (s .ring .count)) (messageBytes m))
-      unfolding sending
-      stored-in h = simp (good, fits, lt-ltb _ _ h)
+-- a message that is not refused has no refusal of its own, and may be put in
+module _ (h : Shared) (s : Send) (n own r : ℕ) (e : r ≡ putRefusal h s n own) (z : r ≡ 0) where
+  ways : (usable h s n ≡ true) × (own ≡ 0) × (ltb (s .ring .count) (s .ring .capacity) ≡ true)
+  unfolding putRefusal
+  ways =
+      let u = passed (usable h s n) _ 2 refl (sym e ∙ z) in
+      let o = own-zero own _ (u .1) in
+      (u .0, o .0, passed (ltb (s .ring .count) (s .ring .capacity)) 0 5 refl (o .1) .0)
 
--- ---- taking the oldest
+  pub put-own : own ≡ 0
+  put-own = ways .1
 
--- the judgement's test is the definition's
-tested : (b : List ℕ) (j : JudgedMessage) → j ≡ judgeMessage b → j .good ≡ isMessage b
-tested b j e = ap (λ (k : JudgedMessage). k .good) e ∙ good-is b
+  pub put-free : (goodSend s ≡ true) × (sendFits s n ≡ true) × (s .ring .count < s .ring .capacity)
+  put-free = let g = judged h s n (ways .0) in (g .0, g .1, ltb-true _ _ (ways .2))
 
--- bytes judged good are a message, and it is the one judged
-pub judged-good : (b : List ℕ) (j : JudgedMessage) → j ≡ judgeMessage b → not (j .good) ≡ false
-    → (isMessage b ≡ true) × (j .message ≡ messageIn b)
-judged-good b j e h = let g = said (tested b j e) h in (g, ap (λ (k : JudgedMessage). k .message) e ∙ message-as b g)
+-- the oldest slot may be looked at
+pub wait-free : (h : Shared) (s : Send) (n r : ℕ) → r ≡ waitRefusal h s n → r ≡ 0
+    → (goodSend s ≡ true) × (sendFits s n ≡ true) × (s .ring .count ≡ 0 → ⊥)
+unfolding waitRefusal
+wait-free h s n r e z =
+    let u = passed (usable h s n) _ 2 refl (sym e ∙ z) in
+    let f = stopped (s .held) _ 5 refl (u .1) in
+    let c = stopped (eqb (s .ring .count) 0) 0 4 refl (f .1) in
+    let g = judged h s n (u .0) in
+    (g .0, g .1, λ x. apart (sym (eq-eqb _ _ x) ∙ c .0))
 
-module _ (s : Send) (t : List ℕ) where
-  -- numbers that no channel can have: 2
-  pub bad-take : goodSend s ≡ false → sent 2 s ≡ taking s t
-  unfolding taking
-  bad-take h = simp h
+-- ---- the oldest slot, lent as a part and judged
 
-  module _ (good : goodSend s ≡ true) where
-    -- a table shorter than the capacity needs: 2
-    pub short-take : sendFits s (length t) ≡ false → sent 2 s ≡ taking s t
-    unfolding taking
-    short-take h = simp (good, h)
+pub oldest-as : (s : Send) (t : List ℕ) (at i : ℕ) → i ≡ slotOf (s .ring) 0 → at ≡ messageSize * i → {j : JudgedMessage}
+    → j ≡ judgeMessage (take (at + messageSize - at) (drop at t)) → j ≡ judgeMessage (oldest s t)
+oldest-as s t at i p a e = e ∙ ap judgeMessage (slot-part messageSize at i t a ∙ rw p)
 
-    module _ (fits : sendFits s (length t) ≡ true) where
-      -- the register is occupied: 5
-      pub occupied : s .held ≡ true → sent 5 s ≡ taking s t
-      unfolding taking
-      occupied h = simp (good, fits, h)
+module _ (h : Shared) (s : Send) (t : List ℕ) where
+  -- what is found says the refusal, and where there is none the oldest message
+  pub found-number : {f : Found} → f ≡ found h s t → f .number ≡ takeRefusal h s t
+  unfolding found
+  found-number e =
+      ap (λ (f : Found). f .number) e
+      ∙ pick-is (λ (f : Found). f .number ≡ takeRefusal h s t) (eqb (takeRefusal h s t) 0)
+      (λ z. sym (eqb-true (takeRefusal h s t) 0 z)) (λ z. refl)
 
-      module _ (free : s .held ≡ false) where
-        -- nothing queued: 4
-        pub nothing : s .ring .count ≡ 0 → sent 4 s ≡ taking s t
-        unfolding taking
-        nothing h = simp (good, fits, free, eq-eqb (s .ring .count) 0 h)
+  pub found-message : {f : Found} → f ≡ found h s t → f .number ≡ 0 → f .message ≡ messageIn (oldest s t)
+  unfolding found
+  found-message e z =
+      ap (λ (f : Found). f .message) e ∙ rw (eq-eqb (takeRefusal h s t) 0 (sym (found-number e) ∙ z))
 
-        -- the oldest slot is i, from byte `at` on, judged j
-        module _ (some : s .ring .count ≡ 0 → ⊥) (at i : ℕ) (p : i ≡ slotOf (s .ring) 0) (a : at ≡ messageSize * i)
-            (j : JudgedMessage) (e : j ≡ judgeMessage (take (at + messageSize - at) (drop at t))) where
-          part-is : take (at + messageSize - at) (drop at t) ≡ oldest s t
-          part-is = slot-part messageSize at i t a ∙ rw p
+  module _ (n : ℕ) (e : n ≡ waitRefusal h s (length t)) where
+    pub not-waiting : (n ≡ 0 → ⊥) → notFound n ≡ found h s t
+    unfolding found takeRefusal
+    not-waiting x = rw (← e, ne-eqb n 0 x, ne-eqb n 0 x)
 
-          -- a damaged slot: 14
-          pub damaged : not (j .good) ≡ true → sent 14 s ≡ taking s t
-          unfolding taking
-          damaged h = simp (good, fits, free, ne-eqb (s .ring .count) 0 some, rw part-is at (denied (tested _ j e) h))
+    module _ (z : n ≡ 0) (j : JudgedMessage) (q : j ≡ judgeMessage (oldest s t)) where
+      good-as : j .good ≡ isMessage (oldest s t)
+      good-as = ap (λ (k : JudgedMessage). k .good) q ∙ good-is (oldest s t)
 
-          -- a message: 0, and it is in the register
-          pub moved : not (j .good) ≡ false → sent 0 (afterTake s (j .message)) ≡ taking s t
-          unfolding taking
-          moved h =
-              let g = judged-good _ j e h in
-              simp (good, fits, free, ne-eqb (s .ring .count) 0 some, rw part-is at (g .0), rw part-is at (g .1))
+      pub damaged : not (j .good) ≡ true → notFound 14 ≡ found h s t
+      unfolding found takeRefusal
+      damaged x = rw (← e, eq-eqb n 0 z, denied good-as x)
+
+      pub moves : not (j .good) ≡ false → record { number = 0; message = j .message } ≡ found h s t
+      unfolding found takeRefusal
+      moves x =
+          let g = said good-as x in
+          rw (← e, eq-eqb n 0 z, g, ap (λ (k : JudgedMessage). k .message) q ∙ message-as (oldest s t) g)
+
+-- what a take that is not refused has shown
+pub take-free : (h : Shared) (s : Send) (t : List ℕ) (r : ℕ) → r ≡ takeRefusal h s t → r ≡ 0
+    → (goodSend s ≡ true) × (s .ring .count ≡ 0 → ⊥)
+unfolding takeRefusal
+take-free h s t r e z =
+    let w = own-zero (waitRefusal h s (length t)) _ (sym e ∙ z) in
+    let f = wait-free h s (length t) _ refl (w .0) in
+    (f .0, f .2)
+
+-- ---- the two ways of every call: n is the number that the code's refusal gave
+
+module _ (k n v : ℕ) (b : List ℕ) (s : Send) (t : List ℕ) (o : Outcome) (e : n ≡ k) where
+  -- refused: channel and table stay
+  pub refused-is : (n ≡ 0 → ⊥) → settled k v b s t o ≡ refused n v b s t
+  refused-is h = rw (← e, ne-eqb n 0 h)
+
+  -- not refused: the effect
+  pub done-is : n ≡ 0 → settled k v b s t o ≡ o
+  done-is h = rw (← e, eq-eqb n 0 h)
+
+  pub write-refused : {r : Sent} → (n ≡ 0 → ⊥) → r ≡ sentOf (refused n v b s t) → WriteMet (settled k v b s t o) r t
+  write-refused h a = rw (refused-is h) (record { answer = a; table = refl })
+
+  pub write-done : {r : Sent} {u : List ℕ} → n ≡ 0 → WriteMet o r u → WriteMet (settled k v b s t o) r u
+  write-done h m = rw (done-is h) m
+
+  pub read-refused : {A : Type 0} (f : Outcome → A) {r : A} → (n ≡ 0 → ⊥) → r ≡ f (refused n v b s t)
+      → r ≡ f (settled k v b s t o)
+  read-refused f h a = a ∙ sym (ap f (refused-is h))
+
+  pub read-done : {A : Type 0} (f : Outcome → A) {r : A} → n ≡ 0 → r ≡ f o → r ≡ f (settled k v b s t o)
+  read-done f h a = a ∙ sym (ap f (done-is h))
+
+-- a message that was brought once
+module _ (h : Shared) (s : Send) (m : Message) (t : List ℕ) (b : Brought) (q : b ≡ brought h m)
+    (n : ℕ) (e : n ≡ putRefusal h s (length t) (b .number)) where
+  own-is : b .number ≡ binaryRefusal h m
+  own-is = ap (λ (r : Brought). r .number) q ∙ brought-number h m
+
+  pub send-refused : {x : Sent} → (n ≡ 0 → ⊥) → x ≡ sentOf (refused n 0 [] s t) → WriteMet (sent h s m t) x t
+  unfolding sent
+  send-refused z a = write-refused _ n 0 [] s t _ (rw own-is at e) z a
+
+  pub send-done : {x : Sent} {u : List ℕ} → n ≡ 0 → WriteMet (puts s (b .message) 0 t) x u → WriteMet (sent h s m t) x u
+  unfolding sent
+  send-done z w =
+      let none = sym own-is ∙ put-own h s (length t) (b .number) n e z in
+      let kept = ap (λ (r : Brought). r .message) q ∙ brought-message h m none in
+      write-done _ n 0 [] s t _ (rw own-is at e) z (rw kept at w)
+
+-- a text that was read once
+module _ (h : Shared) (s : Send) (text t : List ℕ) (r : Read) (q : r ≡ reads h text)
+    (n : ℕ) (e : n ≡ putRefusal h s (length t) (r .number)) where
+  pub text-refused : {x : Sent} (used : ℕ) → used ≡ usedBeside n r → (n ≡ 0 → ⊥) → x ≡ sentOf (refused n used [] s t)
+      → WriteMet (textSent h s text t) x t
+  unfolding textSent
+  text-refused {x} used u z a =
+      subst (λ (g : Read). WriteMet (readSent h s g t) x t) q (write-refused _ n _ [] s t _ e z (a ∙ rw (u, e)))
+
+  pub text-done : {x : Sent} {u : List ℕ} → n ≡ 0 → WriteMet (puts s (r .message) (r .used) t) x u
+      → WriteMet (textSent h s text t) x u
+  unfolding textSent
+  text-done {x} {u} z m = subst (λ (g : Read). WriteMet (readSent h s g t) x u) q (write-done _ n _ [] s t _ e z m)
+
+-- ---- no call raises a received event
+
+-- a code other than 1 where a test holds, else none
+other-code : (test : Bool) (code tick : ℕ) (m : Message) → (code ≡ 1 → ⊥) → raisedIf test code tick m .code ≡ 1 → ⊥
+other-code test code tick m h = pick-is (λ (r : Raised). r .code ≡ 1 → ⊥) test (λ e. h) (λ e x. omega (arith, x))
+
+-- a call whose effect raises no 1
+other-raised : (n : ℕ) (o p : Outcome) → (o .raised .code ≡ 1 → ⊥) → (p .raised .code ≡ 1 → ⊥)
+    → pick (eqb n 0) o p .raised .code ≡ 1 → ⊥
+other-raised n o p h g = pick-is (λ (q : Outcome). q .raised .code ≡ 1 → ⊥) (eqb n 0) (λ e. h) (λ e. g)
+
+module _ (h : Shared) (s : Send) (tick : ℕ) (t : List ℕ) where
+  pub take-raises : taken h s tick t .raised .code ≡ 1 → ⊥
+  unfolding taken
+  take-raises =
+      other-raised (takeRefusal h s t) (takes s tick (messageIn (oldest s t)) t) (refused (takeRefusal h s t) 0 _ s t)
+      (other-code (raisesAtTake (s .tx)) 2 tick _ (λ x. omega (arith, x))) (λ x. omega (arith, x))
+
+  pub done-raises : finished h s tick t .raised .code ≡ 1 → ⊥
+  unfolding finished
+  done-raises =
+      other-raised (doneRefusal h s) (finishes s tick t) (refused (doneRefusal h s) 0 [] s t)
+      (other-code (raisesAtDone (s .tx)) 2 tick _ (λ x. omega (arith, x))) (λ x. omega (arith, x))
+
+  pub abort-raises : aborted h s tick t .raised .code ≡ 1 → ⊥
+  unfolding aborted
+  abort-raises =
+      other-raised (abortRefusal h s) (aborts s tick t) (refused (abortRefusal h s) 0 [] s t)
+      (other-code (s .held) 3 tick _ (λ x. omega (arith, x))) (λ x. omega (arith, x))

@@ -1,18 +1,14 @@
--- No two different outcomes satisfy a contract: answer, next channel and every lent byte are settled at every input.
--- Every other public function of this crate ensures that its result equals a definition, as `take` does.
+-- No two different outcomes satisfy a contract: answer, next channel, event raised and every lent byte are settled.
 use mathlib.Core.Path.{_≡_, sym, _∙_}
 use mathlib.Core.List.{List}
 use Prim.Native.Nat.{ℕ}
-use Rattle.records.specs.declared.Message.{Message}
-use Rattle.outbox.specs.Outbox.{sending, SendMet, taking}
-use Rattle.outbox.specs.declared.Send.{Send}
+use Rattle.outbox.specs.Calls.{Outcome, WriteMet}
 use Rattle.outbox.specs.declared.Sent.{Sent}
 
--- put: the number with the channel, and the table
-pub put-unique : (s : Send) (m : Message) (t : List ℕ) (a b : Sent) (u v : List ℕ)
-    → SendMet (sending s m t) a u → SendMet (sending s m t) b v → (a ≡ b) × (u ≡ v)
-put-unique s m t a b u v p q = (rw (p .number, p .send, q .number, q .send), p .table ∙ sym (q .table))
+-- send, send_text: the answer with the channel, and every byte of the table
+pub write-unique : {o : Outcome} {r s : Sent} {t u : List ℕ} → WriteMet o r t → WriteMet o s u → (r ≡ s) × (t ≡ u)
+write-unique m n = (m .answer ∙ sym (n .answer), m .table ∙ sym (n .table))
 
--- take: number and channel, the register's message included; the table is lent for reading only
-pub take-unique : (s : Send) (t : List ℕ) (a b : Sent) → a ≡ taking s t → b ≡ taking s t → a ≡ b
-take-unique s t a b p q = p ∙ sym q
+-- take, done, abort, is_send, fits: the answer, with the channel and the event; the table is lent for reading only
+pub read-unique : {A : Type 0} {o r s : A} → r ≡ o → s ≡ o → r ≡ s
+read-unique m n = m ∙ sym n

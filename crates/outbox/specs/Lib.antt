@@ -1,1 +1,3 @@
-pub mod Outbox
+pub mod Channel
+pub mod Refusals
+pub mod Calls

@@ -1,8 +1,8 @@
 -- What an outcome and a step of the model have in common, and the ways in which both go: a choice, an event met, an event raised beside an answer.
 use Prim.Native.Nat.{ℕ}
-use mathlib.Core.Path.{_≡_, refl, sym, _∙_}
+use mathlib.Core.Path.{_≡_, refl, sym, subst, _∙_}
 use mathlib.Core.Bool.{Bool, true, false, not, _||_}
-use mathlib.Core.List.{List, [], _∷_, _++_}
+use mathlib.Core.List.{List, _++_}
 use mathlib.Core.Option.{Option, none, some}
 use native.Mathlib.Omega.{arith}
 use lib.ListN.{length, drop}
@@ -10,7 +10,7 @@ use lib.Dec.{ltb}
 use Rattle.common.specs.Choice.{pick}
 use Rattle.common.proofs.Bools.{apart}
 use Rattle.ids.specs.EventMask.{maskLets}
-use Rattle.records.specs.Messages.{goodMessage, noMessage}
+use Rattle.records.specs.Messages.{goodMessage}
 use Rattle.records.specs.Events.{eventSize, codeOf, stamped}
 use Rattle.records.specs.Raised.{filtered}
 use Rattle.records.specs.declared.Message.{Message}
@@ -19,17 +19,17 @@ use Rattle.records.proofs.EventRoundTrip.{event-bytes-length}
 use Rattle.settings.specs.declared.Shared.{Shared}
 use Rattle.queue.specs.Queue.{queueLimit, goodReceive, Raising, queued, unfiltered, raising, usable}
 use Rattle.queue.specs.declared.Receive.{Receive}
-use Rattle.outbox.specs.Outbox.{goodSend}
+use Rattle.outbox.specs.Channel.{goodSend}
 use Rattle.outbox.specs.declared.Send.{Send}
 use Rattle.recorder.specs.State.{good}
-use Rattle.recorder.specs.Outcomes.{lends, Outcome, ends, met, noted, notedIf}
+use Rattle.recorder.specs.Outcomes.{lends, Outcome, ends, met, noted}
 use Rattle.recorder.specs.declared.Device.{Device}
 use Rattle.model.specs.Said.{Said}
 use Rattle.model.specs.Inbox.{Kept, keeps, Inbox, recording, losing, Met, meets, arrival}
 use Rattle.model.specs.Outbox.{Outbox}
 use Rattle.model.specs.Box.{Box, box, Step, steps}
 use Rattle.model.specs.Box as Model
-use Rattle.promises.specs.Stands.{SoundEvent, SoundMessage, keptBytes, Receives, Register, Sends, Stands, Says}
+use Rattle.promises.specs.Stands.{SoundEvent, keptBytes, Receives, Register, Sends, Stands, Says}
 use Rattle.promises.proofs.Holding.{all-snoc, holds-count, holds-more}
 use Rattle.promises.proofs.Sound.{stamped-sound}
 
@@ -138,6 +138,10 @@ module _ (r : Receive) (q : List ℕ) (b : Inbox) (h : Receives r q b) where
 abbrev pub Agrees : Outcome → List ℕ → Step → Type 0
 Agrees o out s = Says o out (s .said) × Stands (o .device) (o .lent .queue) (o .lent .send) (s .after)
 
+-- what agrees with an outcome agrees with any equal one
+pub agrees-as : {o p : Outcome} {out : List ℕ} {s : Step} → o ≡ p → Agrees p out s → Agrees o out s
+agrees-as {o} {p} {out} {s} e a = subst (λ (x : Outcome). Agrees x out s) (sym e) a
+
 -- a choice by one test
 pub agree-ways : (c : Bool) (out : List ℕ) {o o′ : Outcome} {s s′ : Step} → (c ≡ true → Agrees o out s) → (c ≡ false → Agrees o′ out s′)
     → Agrees (pick c o o′) out (pick c s s′)
@@ -168,7 +172,7 @@ notes e i o out a b f h =
 -- an event that is raised only where a test holds
 pub notes-if : (c c′ : Bool) → c ≡ c′ → (e : Event) (i : ℕ) (o : Outcome) (out : List ℕ) (a : Said) (b : Box) → SoundEvent e
     → Agrees o out (steps a b)
-    → Agrees (notedIf c e o) out (steps a (box (b .shared) (Model.noted (b .shared) i (pick c′ (some e) none) (b .inbox)) (b .outbox)))
+    → Agrees (pick c (noted e o) o) out (steps a (box (b .shared) (Model.noted (b .shared) i (pick c′ (some e) none) (b .inbox)) (b .outbox)))
 notes-if true c′ same e i o out a b f h = rw (← same) (notes e i o out a b f h)
 notes-if false c′ same e i o out a b f h = rw (← same) h
 

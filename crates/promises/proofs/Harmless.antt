@@ -2,43 +2,41 @@
 use mathlib.Core.Path.{_≡_, refl, sym, ap, _∙_}
 use mathlib.Core.Bool.{Bool, true, false, not, _&&_, _||_}
 use mathlib.Core.List.{List, [], _∷_}
-use Prim.Native.Nat.{ℕ, _^_, _≤_}
+use Prim.Native.Nat.{ℕ, _≤_}
 use lib.ListN.{length, replicate}
-use lib.Dec.{ltb, leb, eqb}
-use borrow.Author.Tests.{le-leb, eqb-true}
+use lib.Dec.{ltb, eqb}
+use borrow.Author.Tests.{eqb-true, eq-eqb}
 use Rattle.common.specs.Choice.{pick}
 use Rattle.common.specs.Numbers.{among}
-use Rattle.common.proofs.Among.{among-first, among-last}
+use Rattle.common.proofs.Among.{among-last}
 use Rattle.common.proofs.Choices.{pick-is}
 use Rattle.common.proofs.Bools.{apart, denied}
-use Rattle.ids.specs.Ids.{isFormat, idBits, rawOf, isBad}
-use Rattle.ids.specs.Filters.{modeTakes}
+use Rattle.ids.specs.Ids.{isFormat}
 use Rattle.ids.specs.EventMask.{maskLets, isMask}
 use Rattle.ids.specs.Frames.{headerRefusal}
-use Rattle.ids.specs.declared.Header.{Header}
 use Rattle.records.specs.declared.Message.{Message}
 use Rattle.records.specs.Events.{holdsFrame, codeOf, isEvent}
 use Rattle.records.specs.Messages.{messageSize, isMessage, noMessage}
 use Rattle.records.specs.declared.Event.{Event}
-use Rattle.queue.specs.Queue.{queueFits, slotAt, usable, Raising, raises, queued, unfiltered, raising, notRead, reading, lookNumber, looked}
+use Rattle.queue.specs.Queue.{goodReceive, queueFits, slotAt, usable, Raising, raises, queued, unfiltered, raising, notRead, reading, lookNumber, looked}
 use Rattle.records.specs.Raised.{filtered, eventOf, frameRefusal}
 use Rattle.queue.specs.declared.Receive.{Receive}
 use Rattle.queue.specs.declared.ReadOut.{ReadOut}
-use Rattle.outbox.specs.Outbox.{Sending, sending, taking}
-use Rattle.outbox.specs.Outbox as Outbox
-use Rattle.outbox.specs.declared.Sent.{Sent}
+use Rattle.outbox.specs.Channel.{sendFits, oldest}
+use Rattle.outbox.specs.Refusals.{possible, putRefusal, waitRefusal, takeRefusal, doneRefusal, abortRefusal}
+use Rattle.outbox.specs.Refusals as Refusals
+use Rattle.outbox.specs.Calls as Wire
 use Rattle.message_text.specs.Printing.{messageRefusal, messageRecordRefusal}
 use Rattle.message_text.specs.Numbers.{usedOf}
 use Rattle.message_text.proofs.Cases.{read-is}
 use Rattle.event_text.specs.Lines.{eventRecordRefusal}
-use Rattle.recorder.specs.State.{good, fresh, noDevice, withShared, withReceive, withSend}
+use Rattle.recorder.specs.State.{good, fresh, noDevice, withShared, withReceive}
 use Rattle.settings.specs.Ranges.{goodShared, formatOf}
-use Rattle.settings.specs.TxMode.{raisesAtTake, raisesAtDone}
-use Rattle.settings.specs.Binary.{binaryRefusal, sentMessage}
-use Rattle.recorder.specs.Outcomes.{Lent, Outcome, ends, refuses, queueReady, sendReady, bothReady, noted, notedIf, met, withQueue, withTable}
+use Rattle.settings.specs.Binary.{binaryRefusal}
+use Rattle.recorder.specs.Outcomes.{Lent, Outcome, ends, refuses, queueReady, noted, met, withQueue}
 use Rattle.common.specs.Refusals.{isRefusal}
 use Rattle.recorder.specs.Receiving.{opened, changed, filterSet, eventMaskSet, raised, recordRead, textRead, lookSaid, through}
-use Rattle.recorder.specs.Sending.{put, sent, putSaid, textSent, taken, finished, aborted}
+use Rattle.recorder.specs.Sending.{lifted, carried, carrying, sent, textSent, taken, finished, aborted}
 use Rattle.recorder.specs.Printing.{linePrinted, messageRecordPrinted, eventRecordPrinted, messagePrinted}
 use Rattle.recorder.specs.declared.Device.{Device}
 use Rattle.settings.specs.declared.Shared.{Shared}
@@ -78,10 +76,9 @@ module _ (ns : List ℕ) (d : Device) (l : Lent) where
   succeeds v b e m h = no-refusal (ends 0 v b e m) h refl
 
   -- and so it does with an event raised beside it
-  succeeds-noted : (b : Bool) (e : Event) (v : ℕ) (bs : List ℕ) (f : Device) (m : Lent) → among 0 ns ≡ true → H (notedIf b e (ends 0 v bs f m))
+  succeeds-noted : (e : Event) (v : ℕ) (bs : List ℕ) (f : Device) (m : Lent) → among 0 ns ≡ true → H (noted e (ends 0 v bs f m))
   unfolding noted
-  succeeds-noted true e v bs f m h = succeeds v bs _ _ h
-  succeeds-noted false e v bs f m h = succeeds v bs f m h
+  succeeds-noted e v bs f m h = succeeds v bs _ _ h
 
 module _ (ns : List ℕ) (d : Device) (l : Lent) where
   -- a number that is 0 succeeds, any other is refused
@@ -179,7 +176,7 @@ module _ (d : Device) (l : Lent) where
   changed-fine s tick =
       let ns : List ℕ = 2 ∷ 1 ∷ 0 ∷ [] in
       both (H ns d l) (queueReady d l) _ _
-      (both (H ns d l) (goodShared s) _ _ (succeeds-noted ns d l true (eventOf 5 tick noMessage) 0 [] (withShared d s) l refl) (refused ns d l 1 refl))
+      (both (H ns d l) (goodShared s) _ _ (succeeds-noted ns d l (eventOf 5 tick noMessage) 0 [] (withShared d s) l refl) (refused ns d l 1 refl))
       (refused ns d l 2 refl)
 
   filter-fine : (code mask : ℕ) → H (listedReceive (setFilter code mask)) d l (filterSet code mask d l)
@@ -198,53 +195,78 @@ module _ (d : Device) (l : Lent) where
       let ns : List ℕ = 2 ∷ 13 ∷ 0 ∷ [] in
       both (H ns d l) (good d) _ _ (both (H ns d l) (isFormat format) _ _ (succeeds ns d l _ _ _ _ refl) (refused ns d l 13 refl)) (refused ns d l 2 refl)
 
-  put-fine : (ns : List ℕ) (m : Message) (v : ℕ) → among 0 ns ≡ true → among 5 ns ≡ true → among 2 ns ≡ true → H ns d l (put m v d l)
-  unfolding put sending
-  put-fine ns m v z f t =
-      by-number ns d l (sending (d .send) m (l .send) .number) _
-      (both (λ (g : Sending). Other ns (g .number)) (Outbox.usable (d .send) (l .send)) _ _
-      (both (λ (g : Sending). Other ns (g .number)) (ltb (d .send .ring .count) (d .send .ring .capacity)) _ _ (λ e. z) (λ e. f)) (λ e. t))
-      (λ e. succeeds ns d l _ _ _ _ z)
+  -- what holds of a call's effect and of its refusal holds of the call
+  by-settled : (P : Wire.Outcome → Type 0) (n v : ℕ) (b : List ℕ) (o : Wire.Outcome) → P o
+      → (eqb n 0 ≡ false → P (Wire.refused n v b (d .send) (l .send))) → P (Wire.settled n v b (d .send) (l .send) o)
+  by-settled P n v b o p r = pick-is P (eqb n 0) (λ e. p) r
+
+  -- a message's number: 2, its own, 5 or 0
+  put-number : (P : ℕ → Type 0) (own : ℕ) → P 2 → P own → P 5 → P 0
+      → P (putRefusal (d .shared) (d .send) (length (l .send)) own)
+  unfolding putRefusal
+  put-number P own two o five zero =
+      both P (Refusals.usable (d .shared) (d .send) (length (l .send))) _ 2
+      (both P (eqb own 0) _ own (both P (ltb (d .send .ring .count) (d .send .ring .capacity)) 0 5 zero five) o) two
 
   send-fine : (m : Message) → H (listedSend (send m)) d l (sent m d l)
-  unfolding sent
+  unfolding sent Wire.sent
   send-fine m =
       let ns : List ℕ = 2 ∷ 13 ∷ 8 ∷ 9 ∷ 10 ∷ 5 ∷ 0 ∷ [] in
-      both (H ns d l) (sendReady d l) _ _
-      (by-number ns d l (binaryRefusal (d .shared) m) _
-      (binary-number (Other ns) (d .shared) m (λ e. refl) (λ e. refl) (λ e. refl) (λ e. refl) (λ e. refl))
-      (λ z. put-fine ns (sentMessage (d .shared) m) 0 refl refl refl))
+      let own = binaryRefusal (d .shared) m in
+      let o : Other ns own =
+      binary-number (Other ns) (d .shared) m (λ e. refl) (λ e. refl) (λ e. refl) (λ e. refl) (λ e. refl) in
+      let n = putRefusal (d .shared) (d .send) (length (l .send)) own in
+      let listed : Other ns n = put-number (Other ns) own (λ e. refl) o (λ e. refl) (λ e. refl) in
+      both (H ns d l) (goodReceive (d .receive)) _ _
+      (by-settled (λ w. H ns d l (lifted w d l)) n 0 [] _ (succeeds ns d l _ _ _ _ refl)
+      (λ e. refused ns d l n (listed e)))
       (refused ns d l 2 refl)
 
   -- a refusal that answers zero bytes
   refused-bytes : (ns : List ℕ) (n : ℕ) → among n ns ≡ true → H ns d l (ends n 0 (replicate messageSize 0) d l)
   refused-bytes ns n h = record { is-listed = h; device-kept = λ x. refl; bytes-kept = λ x. refl; zero-bytes = λ x. refl; value-is = λ x. refl }
 
+  take-number : Other (2 ∷ 5 ∷ 4 ∷ 14 ∷ 0 ∷ []) (takeRefusal (d .shared) (d .send) (l .send))
+  unfolding takeRefusal waitRefusal
+  take-number =
+      let N : ℕ → Type 0 = Other (2 ∷ 5 ∷ 4 ∷ 14 ∷ 0 ∷ []) in
+      both N (eqb (waitRefusal (d .shared) (d .send) (length (l .send))) 0) _ _
+      (both N (isMessage (oldest (d .send) (l .send))) 0 14 (λ e. refl) (λ e. refl))
+      (both N (Refusals.usable (d .shared) (d .send) (length (l .send))) _ 2
+      (both N (d .send .held) 5 _ (λ e. refl) (both N (eqb (d .send .ring .count) 0) 4 0 (λ e. refl) (λ e. refl)))
+      (λ e. refl))
+
   take-fine : (tick : ℕ) → H (listedSend (take tick)) d l (taken tick d l)
-  unfolding taken taking
+  unfolding taken Wire.taken carried
   take-fine tick =
       let ns : List ℕ = 2 ∷ 5 ∷ 4 ∷ 14 ∷ 0 ∷ [] in
-      let o = taking (d .send) (l .send) in
-      let N : Sent → Type 0 = λ g. among (g .number) ns ≡ true in
-      let h : N o = both N (Outbox.usable (d .send) (l .send)) _ _
-      (both N (d .send .held) _ _ refl (both N (eqb (d .send .ring .count) 0) _ _ refl (both N (isMessage (Outbox.oldest (d .send) (l .send))) _ _ refl refl)))
-      refl in
-      both (H ns d l) (bothReady d l) _ _
-      (both (H ns d l) (eqb (o .number) 0) _ _ (succeeds-noted ns d l (raisesAtTake (d .send .tx)) _ 0 _ _ _ refl) (refused-bytes ns (o .number) h))
+      both (H ns d l) (usable (d .receive) (l .queue)) _ _
+      (by-settled (λ w. H ns d l (carrying w d l)) (takeRefusal (d .shared) (d .send) (l .send)) 0 _ _
+      (succeeds ns d l _ _ _ _ refl) (λ e. refused-bytes ns _ (take-number e)))
       (refused-bytes ns 2 refl)
 
   done-fine : (tick : ℕ) → H (listedSend (done tick)) d l (finished tick d l)
-  unfolding finished
+  unfolding finished Wire.finished doneRefusal carried
   done-fine tick =
       let ns : List ℕ = 2 ∷ 4 ∷ 0 ∷ [] in
-      both (H ns d l) (queueReady d l) _ _
-      (both (H ns d l) (d .send .held) _ _ (succeeds-noted ns d l (raisesAtDone (d .send .tx)) _ 0 [] _ l refl) (refused ns d l 4 refl))
+      let listed : Other ns (doneRefusal (d .shared) (d .send)) =
+      both (Other ns) (possible (d .shared) (d .send)) _ 2
+      (both (Other ns) (d .send .held) 0 4 (λ e. refl) (λ e. refl)) (λ e. refl) in
+      both (H ns d l) (usable (d .receive) (l .queue)) _ _
+      (by-settled (λ w. H ns d l (carrying w d l)) (doneRefusal (d .shared) (d .send)) 0 [] _
+      (succeeds ns d l _ _ _ _ refl) (λ e. refused ns d l _ (listed e)))
       (refused ns d l 2 refl)
 
   abort-fine : (tick : ℕ) → H (listedSend (abort tick)) d l (aborted tick d l)
-  unfolding aborted
+  unfolding aborted Wire.aborted abortRefusal carried
   abort-fine tick =
-      both (H (2 ∷ 0 ∷ []) d l) (queueReady d l) _ _ (succeeds-noted (2 ∷ 0 ∷ []) d l (d .send .held) _ _ [] _ l refl) (refused (2 ∷ 0 ∷ []) d l 2 refl)
+      let ns : List ℕ = 2 ∷ 0 ∷ [] in
+      let listed : Other ns (abortRefusal (d .shared) (d .send)) =
+      both (Other ns) (possible (d .shared) (d .send)) 0 2 (λ e. refl) (λ e. refl) in
+      both (H ns d l) (usable (d .receive) (l .queue)) _ _
+      (by-settled (λ w. H ns d l (carrying w d l)) (abortRefusal (d .shared) (d .send)) 0 [] _
+      (succeeds ns d l _ _ _ _ refl) (λ e. refused ns d l _ (listed e)))
+      (refused ns d l 2 refl)
 
   -- a line is printed, or its first refusal answered; the Align of a good device is in range
   print-fine : (ns : List ℕ) (n : ℕ) (line : List ℕ) → among 0 ns ≡ true → among 2 ns ≡ true → (d .shared .align ≤ 3 → Other ns n) → H ns d l (linePrinted n line d l)
@@ -312,15 +334,17 @@ module _ (d : Device) (l : Lent) where
       value-is = λ x. absurd (apart (sym x));
     }
 
-    -- a message that a text says is put in, or there is no place
-    put-text : (m : Message) (v : ℕ) → T (put m v d l)
-    unfolding put sending
-    put-text m v =
-        both (λ (g : Sending). T (pick (eqb (g .number) 0) (ends 0 v [] (withSend d (g .send)) (withTable l (g .table))) (refuses (g .number) d l)))
-        (Outbox.usable (d .send) (l .send)) _ _
-        (both (λ (g : Sending). T (pick (eqb (g .number) 0) (ends 0 v [] (withSend d (g .send)) (withTable l (g .table))) (refuses (g .number) d l)))
-        (ltb (d .send .ring .count) (d .send .ring .capacity)) _ _ (taken-text v _ _) (refused-text 5 0 refl refl))
-        (refused-text 2 0 refl refl)
+    -- what a text says, with its own refusal and the bytes used
+    abbrev Told : ℕ → ℕ → Message → ℕ → Type 0
+    Told own used m n =
+        let put : Wire.Outcome = Wire.puts (d .send) m used (l .send) in
+        T (lifted (Wire.settled n (pick (eqb n own) used 0) [] (d .send) (l .send) put) d l)
+
+    read-fine : (own used : ℕ) (m : Message) → eqb 2 own ≡ false → eqb 5 own ≡ false → Told own used m own
+        → Told own used m (putRefusal (d .shared) (d .send) (length (l .send)) own)
+    read-fine own used m two five o =
+        put-number (Told own used m) own (rw two (refused-text 2 0 refl refl)) o (rw five (refused-text 5 0 refl refl))
+        (taken-text used _ _)
 
     -- a refusal of a text with an end is none of 2, 5 and 6
     other : (n : ℕ) → among n (7 ∷ 8 ∷ 9 ∷ 10 ∷ 11 ∷ 12 ∷ []) ≡ true → T (ends n (usedOf text) [] d l)
@@ -330,12 +354,23 @@ module _ (d : Device) (l : Lent) where
         let none-of : among n (2 ∷ 5 ∷ 6 ∷ []) ≡ false = denied refl out in
         refused-text n (usedOf text) (each-is (λ k. among k textNumbers) n ns refl h) (rw none-of)
 
+    -- a text with an end that is refused by such a number
+    own : (n : ℕ) (m : Message) → among n (7 ∷ 8 ∷ 9 ∷ 10 ∷ 11 ∷ 12 ∷ []) ≡ true
+        → Told n (usedOf text) m (putRefusal (d .shared) (d .send) (length (l .send)) n)
+    own n m h =
+        let ns : List ℕ = 7 ∷ 8 ∷ 9 ∷ 10 ∷ 11 ∷ 12 ∷ [] in
+        let two : eqb 2 n ≡ false = denied refl (each-is (λ i. not (eqb 2 i)) n ns refl h) in
+        let five : eqb 5 n ≡ false = denied refl (each-is (λ i. not (eqb 5 i)) n ns refl h) in
+        let zero : eqb n 0 ≡ false = denied refl (each-is (λ i. not (eqb i 0)) n ns refl h) in
+        read-fine n (usedOf text) m two five (rw (zero, eq-eqb n n refl) (other n h))
+
     send-text-fine : T (textSent text d l)
-    unfolding textSent
+    unfolding textSent Wire.textSent
     send-text-fine =
-        both T (sendReady d l) _ _
-        (read-is (λ s. T (putSaid s d l)) (d .shared .align) (formatOf (d .shared) (d .shared .format)) text (refused-text 6 0 refl refl)
-        other (λ f. put-text _ _))
+        both T (goodReceive (d .receive)) _ _
+        (read-is (λ s. T (lifted (Wire.readSent (d .shared) (d .send) (Wire.readAs s) (l .send)) d l))
+        (d .shared .align) (formatOf (d .shared) (d .shared .format)) text (read-fine 6 0 noMessage refl refl (refused-text 6 0 refl refl))
+        (λ n h. own n noMessage h) (λ f. read-fine 0 _ _ refl refl (taken-text _ _ _)))
         (refused-text 2 0 refl refl)
 
 -- ---- demand 1
@@ -368,6 +403,6 @@ unfolding opened
 open-harmless s l =
     let ns : List ℕ = 1 ∷ 2 ∷ 0 ∷ [] in
     both (H ns noDevice l) (good (fresh s)) _ _
-    (both (H ns noDevice l) (queueFits (fresh s .receive) (length (l .queue)) && Outbox.sendFits (fresh s .send) (length (l .send))) _ _
+    (both (H ns noDevice l) (queueFits (fresh s .receive) (length (l .queue)) && sendFits (fresh s .send) (length (l .send))) _ _
     (succeeds ns noDevice l 0 [] (fresh s) l refl) (refused ns noDevice l 2 refl))
     (refused ns noDevice l 1 refl)

@@ -14,7 +14,7 @@ use Rattle.settings.specs.Ranges.{goodShared}
 use Rattle.settings.specs.TxMode.{goodTx}
 use Rattle.settings.specs.declared.Settings.{Settings}
 use Rattle.queue.specs.Queue.{queueLimit, goodReceive, queueFits}
-use Rattle.outbox.specs.Outbox.{sendLimit, goodSend, sendFits}
+use Rattle.outbox.specs.Channel.{sendLimit, goodSend, sendFits}
 use Rattle.recorder.specs.State.{good, fresh, noDevice}
 use Rattle.recorder.specs.Outcomes.{Lent, ends, refuses}
 use Rattle.recorder.specs.Receiving.{opened}

@@ -1,6 +1,6 @@
 -- Demand 2: a stored message of its channel's own format, printed and then sent as text, is stored as the same bytes.
 use Prim.Native.Nat.{ℕ, _≤_, _<_, _*_}
-use mathlib.Core.Path.{_≡_, refl, sym, ap, _∙_}
+use mathlib.Core.Path.{_≡_, refl, _∙_}
 use mathlib.Core.Bool.{true, _&&_, _||_, not}
 use mathlib.Core.List.{List, [], _∷_, _++_, map}
 use lib.ListN.{length, take, drop}
@@ -22,14 +22,17 @@ use Rattle.message_text.proofs.RoundTrip.{round-trip}
 use Rattle.settings.specs.Ranges.{formatOf}
 use Rattle.settings.specs.TxMode.{goodTx}
 use Rattle.settings.specs.declared.Settings.{Settings}
-use Rattle.outbox.specs.Outbox.{sendLimit, goodSend, sendFits, withRing, sending}
+use Rattle.queue.specs.Queue.{goodReceive}
+use Rattle.outbox.specs.Channel.{sendLimit, goodSend, sendFits, withRing}
+use Rattle.outbox.specs.Refusals.{possible, usable, putRefusal}
+use Rattle.outbox.specs.Calls as Outbox
 use Rattle.recorder.specs.State.{good, withSend}
 use Rattle.recorder.specs.Outcomes.{Lent, ends, sendReady, withTable, withOut}
 use Rattle.recorder.specs.Receiving.{opened}
-use Rattle.recorder.specs.Sending.{put, textSent}
+use Rattle.recorder.specs.Sending.{textSent}
 use Rattle.recorder.specs.Printing.{linePrinted}
 use Rattle.recorder.specs.declared.Device.{Device}
-use Rattle.recorder.proofs.Ready.{align-in}
+use Rattle.recorder.proofs.Ready.{receive-good, align-in}
 use Rattle.model.specs.Outbox.{sendText}
 use Rattle.model.specs.Box.{printMessageRecord, printMessage, Call, onSend, onAlign, fresh}
 use Rattle.model.specs.Box as Model
@@ -41,7 +44,7 @@ use Rattle.promises.specs.Promised.{ReadsBack}
 use Rattle.promises.proofs.Rings.{held-more}
 use Rattle.promises.proofs.Sound.{message-is}
 use Rattle.promises.proofs.Agreeing.{device-possible}
-use Rattle.promises.proofs.Opening.{parts}
+use Rattle.promises.proofs.Opening.{Parts, parts}
 use Rattle.promises.proofs.Answers.{answers}
 
 module _ (m : Message) (d e : Device) (l n : Lent) (d-good : good d ≡ true) (room : messageRoom ≤ length (l .out)) (sound : SoundMessage m)
@@ -60,8 +63,17 @@ module _ (m : Message) (d e : Device) (l n : Lent) (d-good : good d ≡ true) (r
   fits : messageSize * e .send .ring .capacity ≤ length (n .send)
   fits = leb-true _ _ (and-right (good e) (sendFits (e .send) (length (n .send))) ready)
 
+  e-good : good e ≡ true
+  e-good = and-left (good e) (sendFits (e .send) (length (n .send))) ready
+
+  e-parts : Parts e
+  e-parts = parts e e-good
+
+  e-receive : goodReceive (e .receive) ≡ true
+  e-receive = receive-good e e-good
+
   e-send : goodSend (e .send) ≡ true
-  e-send = parts e (and-left (good e) (sendFits (e .send) (length (n .send))) ready) .send
+  e-send = e-parts .send
 
   facts : RingFacts sendLimit (e .send .ring)
   unfolding goodSend
@@ -74,18 +86,12 @@ module _ (m : Message) (d e : Device) (l n : Lent) (d-good : good d ≡ true) (r
       ≡ record { answer = Taken (m .header) (length line); bytes = m .bytes }
   said = rw (same, ← own) (round-trip (d .shared .align) m align-le (sound .whole) (sound .eight) (sound .bytes))
 
-  put-is : put m (length line) e n
-      ≡ ends 0 (length line) [] (withSend e (withRing (e .send) (withOneMore (e .send .ring))))
-      (withTable n (store messageSize (n .send) (slotOf (e .send .ring) (e .send .ring .count)) (messageBytes m)))
-  unfolding put sending
-  put-is = rw (e-send, le-leb _ _ fits, lt-ltb _ _ free)
-
   -- the line is stored as the message that it was printed from
   sent-is : outcome (onSend (sendText line)) e n
       ≡ ends 0 (length line) [] (withSend e (withRing (e .send) (withOneMore (e .send .ring))))
       (withTable n (store messageSize (n .send) (slotOf (e .send .ring) (e .send .ring .count)) (messageBytes m)))
-  unfolding outcome textSent
-  sent-is = rw (ready, said) put-is
+  unfolding outcome textSent Outbox.textSent putRefusal usable possible
+  sent-is = rw (e-receive, said, e-parts .shared, e-send, le-leb _ _ fits, lt-ltb _ _ free)
 
   back : (x : Call) → outcome x d l ≡ ends 0 (length line) [] d (withOut l (line ++ drop (length line) (l .out)))
       → ReadsBack x (messageBytes m) d e l n

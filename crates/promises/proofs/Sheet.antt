@@ -23,7 +23,9 @@ use Rattle.records.specs.Events.{eventSize, holdsFrame, kindOf, eventBytes, eve
 use Rattle.records.specs.declared.Message.{Message}
 use Rattle.queue.specs.Queue.{goodReceive, queued, unfiltered, raising, reading}
 use Rattle.records.specs.Raised.{filtered, eventOf}
-use Rattle.outbox.specs.Outbox.{goodSend, sending}
+use Rattle.outbox.specs.Channel.{goodSend}
+use Rattle.outbox.specs.Refusals.{possible, usable, putRefusal}
+use Rattle.outbox.specs.Calls as Outbox
 use Rattle.settings.specs.TxMode.{goodTx}
 use Rattle.message_text.specs.Numbers.{numbersFrom, beforeEnd, endRun}
 use Rattle.message_text.specs.Reading.{allBytes, judgedData, judged, readMessage}
@@ -34,7 +36,7 @@ use Rattle.recorder.specs.State.{good}
 use Rattle.settings.specs.Ranges.{goodShared, formatOf}
 use Rattle.recorder.specs.Outcomes.{Lent, lends, Outcome}
 use Rattle.recorder.specs.Receiving.{opened, raised, recordRead, textRead, through}
-use Rattle.recorder.specs.Sending.{put, textSent}
+use Rattle.recorder.specs.Sending.{textSent}
 use Rattle.recorder.specs.Printing.{linePrinted}
 use Rattle.settings.specs.declared.Settings.{Settings}
 use Rattle.model.specs.Inbox.{readText, readRecord, identifiersThrough}
@@ -147,7 +149,7 @@ rows =
 -- the definitions say what the sheet says
 pub sheet : map (λ (r : Row). r .said) rows ≡ map (λ (r : Row). r .paper) rows
 unfolding rows warning reading-one outcome opened goodShared good formatOf goodReceive goodRing goodTx goodSend modeTakes textSent readMessage beforeEnd endRun byteKind
-    judged judgedData numbersFrom rawOf isFormat idLow idBits carried allBytes put sending slotOf store slot ring messageBytes linePrinted messageRefusal
+    judged judgedData numbersFrom rawOf isFormat idLow idBits carried allBytes Outbox.textSent putRefusal usable possible slotOf store slot ring messageBytes linePrinted messageRefusal
     headerRefusal messageLine messageText hex hexDigit fields raised holdsFrame kindOf eventOf stored raising unfiltered filtered framePasses idPasses isFilter
     filterLow dataCompared free fieldMeets byteMeets dataPasses maskBit maskLets queued eventBytes through freeBits letThrough run next recordRead reading isEvent
 sheet = refl
@@ -194,7 +196,7 @@ others =
 -- and so they do of the other cases
 pub others-too : map (λ (r : Row). r .said) others ≡ map (λ (r : Row). r .paper) others
 unfolding others received warning reading-one outcome opened goodShared good formatOf goodReceive goodRing goodTx goodSend modeTakes textSent readMessage beforeEnd endRun
-    byteKind judged judgedData numbersFrom rawOf isFormat idLow idBits carried allBytes put sending slotOf store slot ring messageBytes linePrinted messageRefusal
+    byteKind judged judgedData numbersFrom rawOf isFormat idLow idBits carried allBytes Outbox.textSent putRefusal usable possible slotOf store slot ring messageBytes linePrinted messageRefusal
     headerRefusal messageLine messageText hex hexDigit fields raised holdsFrame kindOf eventOf stored raising unfiltered filtered framePasses idPasses isFilter
     filterLow dataCompared free fieldMeets byteMeets dataPasses maskBit maskLets queued eventBytes through freeBits letThrough run next recordRead reading isEvent textRead eventIn judgeMessage messageIn isMessage goodMessage eventLine eventText frameText wordOf decimalIn
 others-too = refl

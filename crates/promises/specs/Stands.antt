@@ -18,7 +18,7 @@ use Rattle.settings.specs.Ranges.{goodShared}
 use Rattle.settings.specs.TxMode.{goodTx}
 use Rattle.queue.specs.Queue.{queueLimit}
 use Rattle.queue.specs.declared.Receive.{Receive}
-use Rattle.outbox.specs.Outbox.{sendLimit}
+use Rattle.outbox.specs.Channel.{sendLimit}
 use Rattle.outbox.specs.declared.Send.{Send}
 use Rattle.recorder.specs.Outcomes.{Outcome}
 use Rattle.recorder.specs.declared.Device.{Device}

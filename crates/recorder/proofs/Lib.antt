@@ -4,7 +4,6 @@ pub mod OpenWays
 pub mod ChangeWays
 pub mod ReadWays
 pub mod SendWays
-pub mod RegisterWays
 pub mod PrintWays
 pub mod Unique
 pub mod Apart

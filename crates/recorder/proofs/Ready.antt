@@ -19,7 +19,7 @@ use Rattle.settings.specs.Ranges.{goodShared}
 use Rattle.queue.specs.Queue.{queueLimit, goodReceive, queueFits, usable}
 use Rattle.queue.proofs.Laws.{ring-of, judged}
 use Rattle.queue.specs.declared.Receive.{Receive}
-use Rattle.outbox.specs.Outbox.{goodSend}
+use Rattle.outbox.specs.Channel.{goodSend}
 use Rattle.recorder.specs.State.{good}
 use Rattle.recorder.specs.Outcomes.{Lent, queueReady}
 use Rattle.recorder.specs.declared.Device.{Device}
@@ -37,6 +37,10 @@ unfolding good
 receive-good d h =
     and-right (goodShared (d .shared)) (goodReceive (d .receive)) (and-left (goodShared (d .shared) && goodReceive (d .receive)) (goodSend (d .send)) h)
 
+-- and its receive side is usable
+pub ready-usable : (d : Device) (l : Lent) → queueReady d l ≡ true → usable (d .receive) (l .queue) ≡ true
+ready-usable d l h = judged (d .receive) (l .queue) (receive-good d (ready-good d l h)) (ready-fits d l h)
+
 -- a good device has a possible Align
 pub align-in : (d : Device) → good d ≡ true → d .shared .align ≤ 3
 unfolding good goodShared
@@ -51,7 +55,7 @@ pub ready-ring : (d : Device) (l : Lent) → queueReady d l ≡ true → RingFac
 ready-ring d l h = ring-of (d .receive) (receive-good d (ready-good d l h))
 
 -- an event of a code other than 1 has another code than 1
-other-code : (code tick : ℕ) (m : Message) → (code ≡ 1 → ⊥) → codeOf (eventOf code tick m .kind) ≡ 1 → ⊥
+pub other-code : (code tick : ℕ) (m : Message) → (code ≡ 1 → ⊥) → codeOf (eventOf code tick m .kind) ≡ 1 → ⊥
 unfolding eventOf kindOf
 other-code code tick m differs =
     pick-is (λ (e : Event). codeOf (e .kind) ≡ 1 → ⊥) (holdsFrame code)
@@ -63,5 +67,4 @@ other-code code tick m differs =
 -- a ready device may raise it past the filter, whatever changed beside the receive channel
 pub may-note : (d : Device) (l : Lent) (code tick : ℕ) (m : Message) {r : Receive} {e : Event} → queueReady d l ≡ true → (code ≡ 1 → ⊥)
     → r ≡ d .receive → e ≡ eventOf code tick m → (usable r (l .queue) ≡ true) × (codeOf (e .kind) ≡ 1 → ⊥)
-may-note d l code tick m h differs p q =
-    (rw p (judged (d .receive) (l .queue) (receive-good d (ready-good d l h)) (ready-fits d l h)), rw q (other-code code tick m differs))
+may-note d l code tick m h differs p q = (rw p (ready-usable d l h), rw q (other-code code tick m differs))

@@ -1,79 +1,63 @@
--- What each way through send and send_text shows.
-use mathlib.Core.Path.{_≡_, refl, sym, ap, _∙_}
+-- What each way through send, send_text, take, done and abort shows: o is what the outbox answers.
+use mathlib.Core.Path.{_≡_, refl, _∙_}
 use mathlib.Core.Bool.{Bool, true, false}
-use mathlib.Core.List.{List, []}
+use mathlib.Core.List.{List}
 use Prim.Native.Nat.{ℕ}
-use lib.Dec.{ltb}
+use lib.Dec.{eqb}
 use borrow.Author.Tests.{eq-eqb, ne-eqb}
-use Rattle.ids.specs.declared.Header.{Header}
+use Rattle.common.specs.Choice.{pick}
+use Rattle.records.specs.Raised.{eventOf}
+use Rattle.records.specs.declared.Event.{Event}
 use Rattle.records.specs.declared.Message.{Message}
-use Rattle.message_text.specs.Reading.{readMessage}
-use Rattle.message_text.specs.declared.Said.{Said}
-use Rattle.message_text.specs.declared.Answer.the-variants.{Taken, Refused}
-use Rattle.settings.specs.Ranges.{formatOf}
-use Rattle.settings.specs.Binary.{binaryRefusal, brought}
-use Rattle.settings.specs.declared.Brought.{Brought}
-use Rattle.settings.proofs.Laws.{brought-number, brought-message}
-use Rattle.outbox.specs.Outbox.{sending, usable}
+use Rattle.queue.specs.Queue.{raising}
+use Rattle.outbox.specs.Calls as Outbox
+use Rattle.outbox.specs.declared.Raised.{Raised}
 use Rattle.outbox.specs.declared.Send.{Send}
+use Rattle.outbox.specs.declared.Sent.{Sent}
+use Rattle.outbox.specs.declared.Taken.{Taken as TakenOut}
+use Rattle.outbox.specs.declared.Emptied.{Emptied}
 use Rattle.recorder.specs.State.{withSend}
-use Rattle.recorder.specs.Outcomes.{Lent, ends, refuses, sendReady, withTable}
-use Rattle.recorder.specs.Sending.{put, sent, textSent}
+use Rattle.recorder.specs.Outcomes.{Lent, Outcome, noted, answers, takes, QueueMet, SendMet, TakeMet, NoteMet}
+use Rattle.recorder.specs.Sending.{lifted, carried, carrying}
 use Rattle.recorder.specs.declared.Device.{Device}
+use Rattle.recorder.specs.declared.Answer.{Answer}
+use Rattle.recorder.specs.declared.Taken.{Taken}
 
--- put a message into the table: refused by the outbox, or done
-module _ (m : Message) (value : ℕ) (d : Device) (l : Lent) where
-  pub put-refused : (n : ℕ) → n ≡ sending (d .send) m (l .send) .number → (n ≡ 0 → ⊥) → put m value d l ≡ refuses n d l
-  unfolding put
-  put-refused n e h = rw (← e, ne-eqb n 0 h)
+-- nothing to carry, and an event that is carried
+module _ (r : Raised) (d : Device) (q : List ℕ) where
+  pub carries-none : r .code ≡ 0 → NoteMet (carried r (d .shared) (d .receive) q) d d q
+  unfolding carried
+  carries-none z = rw (eq-eqb (r .code) 0 z) (record { device = refl; queue-bytes = refl })
 
-  pub put-done : (n : ℕ) → n ≡ sending (d .send) m (l .send) .number → n ≡ 0
-      → put m value d l ≡ ends 0 value [] (withSend d (sending (d .send) m (l .send) .send)) (withTable l (sending (d .send) m (l .send) .table))
-  unfolding put
-  put-done n e h = rw (← e, eq-eqb n 0 h)
+  pub carries-one : {n : Device} {t : List ℕ} (e : Event) → (r .code ≡ 0 → ⊥)
+      → e ≡ eventOf (r .code) (r .tick) (r .message)
+      → NoteMet (raising (d .shared .mode) (d .shared .align) (d .receive) e q) d n t
+      → NoteMet (carried r (d .shared) (d .receive) q) d n t
+  unfolding carried
+  carries-one e z p m = rw (ne-eqb (r .code) 0 z) (rw p at m)
 
--- a refused put leaves the table
-pub put-keeps : (s : Send) (m : Message) (t u : List ℕ) (n : ℕ) → n ≡ sending s m t .number → (n ≡ 0 → ⊥) → u ≡ sending s m t .table → u ≡ t
-unfolding sending
-put-keeps s m t u n e h q = q ∙ by (usable s t) (ltb (s .ring .count) (s .ring .capacity)) refl refl
-  where
-    by : (a b : Bool) → usable s t ≡ a → ltb (s .ring .count) (s .ring .capacity) ≡ b → sending s m t .table ≡ t
-    by true true x y = absurd (h (e ∙ rw (x, y)))
-    by true false x y = rw (x, y)
-    by false b x y = rw x
+-- the receive side was judged, and the outbox has answered
+module _ (o : Outbox.Outcome) (d : Device) (l : Lent) (w : Outcome) (ok : Bool) (z : ok ≡ true) where
+  pub lifted-met : (s : Sent) (t : List ℕ) → Outbox.WriteMet o s t → {n : Device} → n ≡ withSend d (s .send)
+      → {r : Answer}
+      → r ≡ answers (s .number) (s .value) n → SendMet (pick ok (lifted o d l) w) r t
+  lifted-met s t m e a = rw z (record { answer = a ∙ rw (e, m .answer); send-bytes = m .table })
 
--- send: send-2 answers 2, send-refused the refusal of the message, send-put puts the message brought
-module _ (m : Message) (d : Device) (l : Lent) where
-  pub send-2 : sendReady d l ≡ false → sent m d l ≡ refuses 2 d l
-  unfolding sent
-  send-2 h = rw h
+  pub emptied-met : (s : Emptied) → s ≡ Outbox.emptiedOf o → {n a : Device} {q : List ℕ} → n ≡ withSend d (s .send)
+      → NoteMet (carried (s .raised) (n .shared) (n .receive) (l .queue)) n a q → {r : Answer}
+      → r ≡ answers (s .number) (s .value) a → QueueMet (pick ok (carrying o d l) w) r q
+  emptied-met s m e c a = rw z (record { answer = a ∙ rw (c .device, e, m); queue-bytes = c .queue-bytes ∙ rw (e, m) })
 
-  module _ (ready : sendReady d l ≡ true) (b : Brought) (e : b ≡ brought (d .shared) m) where
-    number-is : b .number ≡ binaryRefusal (d .shared) m
-    number-is = ap (λ (r : Brought). r .number) e ∙ brought-number (d .shared) m
+  pub taken-met : (s : TakenOut) → s ≡ Outbox.takenOf o → {n a : Device} {q : List ℕ} → n ≡ withSend d (s .send)
+      → NoteMet (carried (s .raised) (n .shared) (n .receive) (l .queue)) n a q → {r : Taken}
+      → r ≡ takes (s .number) (s .bytes) a → TakeMet (pick ok (carrying o d l) w) r q
+  taken-met s m e c a = rw z (record { answer = a ∙ rw (c .device, e, m); queue-bytes = c .queue-bytes ∙ rw (e, m) })
 
-    pub send-refused : (b .number ≡ 0 → ⊥) → sent m d l ≡ refuses (b .number) d l
-    unfolding sent
-    send-refused h = rw (ready, ← number-is, ne-eqb (b .number) 0 h)
-
-    pub send-put : b .number ≡ 0 → sent m d l ≡ put (b .message) 0 d l
-    unfolding sent
-    send-put h =
-        let none = sym number-is ∙ h in
-        let stands = ap (λ (r : Brought). r .message) e ∙ brought-message (d .shared) m none in
-        rw (ready, eq-eqb _ 0 none, stands)
-
--- send_text: text-2 answers 2, text-refused the refusal of the text, text-put puts the message read
-module _ (text : List ℕ) (d : Device) (l : Lent) where
-  pub text-2 : sendReady d l ≡ false → textSent text d l ≡ refuses 2 d l
-  unfolding textSent
-  text-2 h = rw h
-
-  module _ (ready : sendReady d l ≡ true) (f : ℕ) (e : f ≡ formatOf (d .shared) (d .shared .format)) (s : Said) (r : s ≡ readMessage (d .shared .align) f text) where
-    pub text-refused : (n used : ℕ) → s .answer ≡ Refused n used → textSent text d l ≡ ends n used [] d l
-    unfolding textSent
-    text-refused n used h = rw (ready, ← e, ← r, h)
-
-    pub text-put : (h : Header) (used : ℕ) → s .answer ≡ Taken h used → textSent text d l ≡ put (record { header = h; bytes = s .bytes }) used d l
-    unfolding textSent
-    text-put h used q = rw (ready, ← e, ← r, q)
+-- an event that the outbox raises where a test holds is one raised beside the answer
+pub carries-as : (test : Bool) (code tick : ℕ) (m : Message) → eqb code 0 ≡ false
+    → (n v : ℕ) (b : List ℕ) (s : Send) (t : List ℕ) (d : Device) (l : Lent)
+    → let o : Outbox.Outcome = Outbox.ends n v b s t (Outbox.raisedIf test code tick m) in
+    carrying o d l ≡ pick test (noted (eventOf code tick m) (lifted o d l)) (lifted o d l)
+unfolding carried noted
+carries-as true code tick m z n v b s t d l = rw z
+carries-as false code tick m z n v b s t d l = refl

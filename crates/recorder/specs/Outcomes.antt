@@ -4,11 +4,10 @@ use mathlib.Core.Path.{_≡_}
 use mathlib.Core.Bool.{Bool, _&&_}
 use mathlib.Core.List.{List, []}
 use lib.ListN.{length}
-use Rattle.common.specs.Choice.{pick}
 use Rattle.records.specs.declared.Event.{Event}
 use Rattle.digits.specs.declared.Printed.{Printed}
 use Rattle.queue.specs.Queue.{Raising, raising, queueFits}
-use Rattle.outbox.specs.Outbox.{sendFits}
+use Rattle.outbox.specs.Channel.{sendFits}
 use Rattle.recorder.specs.State.{good, withReceive}
 use Rattle.recorder.specs.declared.Device.{Device}
 use Rattle.recorder.specs.declared.Answer.{Answer}
@@ -75,10 +74,6 @@ noted e o =
 pub record NoteMet (r : Raising) (d : Device) (n : Device) (queue : List ℕ) : Type 0 where
   pub device : n ≡ withReceive d (r .receive)
   pub queue-bytes : queue ≡ r .table
-
--- the event is raised only where the test holds
-abbrev pub notedIf : Bool → Event → Outcome → Outcome
-notedIf b e o = pick b (noted e o) o
 
 -- the answer of an outcome, as the code returns it
 abbrev pub answers : ℕ → ℕ → Device → Answer

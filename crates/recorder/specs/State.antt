@@ -7,7 +7,7 @@ use Rattle.settings.specs.declared.Shared.{Shared}
 use Rattle.settings.specs.declared.Settings.{Settings}
 use Rattle.queue.specs.Queue.{goodReceive}
 use Rattle.queue.specs.declared.Receive.{Receive}
-use Rattle.outbox.specs.Outbox.{goodSend}
+use Rattle.outbox.specs.Channel.{goodSend}
 use Rattle.outbox.specs.declared.Send.{Send}
 use Rattle.recorder.specs.declared.Device.{Device}
 

@@ -97,7 +97,7 @@ pub fn open(s: Settings, queue: &[u8], send: &[u8]) -> Answer
     if !queue::raising::fits(d.receive, queue.len()) {
         return state::answer(2, 0, no_device());
     }
-    if !outbox::sending::fits(d.send, send.len()) {
+    if !outbox::channel::fits(d.send, send.len()) {
         return state::answer(2, 0, no_device());
     }
     state::answer(0, 0, d)

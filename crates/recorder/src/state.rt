@@ -8,8 +8,7 @@ use settings::Shared;
 ghost use mathlib.Core.Path.{_≡_};
 ghost use mathlib.Core.Bool.{true, _&&_};
 ghost use Rattle.records.specs.Events.{codeOf};
-ghost use Rattle.queue.specs.Queue.{queueFits, usable, raising};
-ghost use Rattle.outbox.specs.Outbox.{sendFits};
+ghost use Rattle.queue.specs.Queue.{goodReceive, queueFits, usable, raising};
 ghost use Rattle.recorder.specs.State.{good, withShared, withReceive, withSend};
 ghost use Rattle.recorder.specs.Outcomes.{answers, NoteMet};
 
@@ -26,7 +25,7 @@ pub fn is_good(d: Device) -> bool
         return false;
     }
     let send = d.send;
-    outbox::sending::is_send(send)
+    outbox::channel::is_send(send)
 }
 
 // The state is possible and the event table, of n bytes, long enough.
@@ -40,15 +39,15 @@ pub fn queue_ready(d: Device, n: usize) -> bool
     queue::raising::fits(receive, n)
 }
 
-// The state is possible and the message table, of n bytes, long enough.
-pub fn send_ready(d: Device, n: usize) -> bool
-    ensures { λ ok. ⌜ ok ≡ (good d && sendFits (d .send) n) ⌝ }
+// The receive channel is possible and the event table, of n bytes, long enough.
+pub fn receive_ready(d: Device, n: usize) -> bool
+    ensures { λ ok. ⌜ ok ≡ (goodReceive (d .receive) && queueFits (d .receive) n) ⌝ }
 {
-    if !is_good(d) {
+    let receive = d.receive;
+    if !queue::raising::is_receive(receive) {
         return false;
     }
-    let send = d.send;
-    outbox::sending::fits(send, n)
+    queue::raising::fits(receive, n)
 }
 
 pub fn with_shared(d: Device, s: Shared) -> Device

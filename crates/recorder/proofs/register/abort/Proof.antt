@@ -1,98 +1,53 @@
-use mathlib.Core.Path.{refl, ap, _∙_}
-use native.Mathlib.Omega.{arith}
+use mathlib.Core.Path.{refl}
 use denote.Ref.{now}
 use mathlib.Core.List.{[]}
-use Rattle.recorder.specs.Outcomes.{lends}
-use Rattle.recorder.specs.declared.Device.{Device}
 use Rattle.common.proofs.Bools.{said, denied}
-use borrow.Author.Tests.{not-true, not-false}
-use Rattle.recorder.proofs.Meeting.{queue-met}
-use Rattle.recorder.proofs.Ready.{may-note}
-use Rattle.recorder.proofs.RegisterWays.{abort-2, abort-quiet, abort-noted}
+use Rattle.outbox.specs.Calls as Outbox
+use Rattle.outbox.proofs.Laws.{abort-raises}
+use Rattle.recorder.specs.Outcomes.{lends}
+use Rattle.recorder.specs.Sending.{aborted}
+use Rattle.recorder.proofs.SendWays.{emptied-met}
 use borrow.Author.Needs.{needs}
 use Rattle.recorder.proofs.register.abort.Statement.{statement}
 use Rattle.recorder.proofs.register.abort.Tie as tie
 
-queue-ready-requires : tie.Need-queue-ready-requires
-queue-ready-requires c κs = search needs
-
-answer-requires : tie.Need-answer-requires
-answer-requires c κs = search needs
-
 returns : tie.Need-returns
+unfolding aborted
 returns c =
-    let a = c .before .before .before .before .args in
-    queue-met 2 0 [] _ _ (abort-2 (a .tick) (a .d) (lends (now (a .queue)) [] []) (denied (c .before .before .queue-ready .ensures) (c .before .if1 .taken))) (c .answer .ensures) refl
+    rw (denied (c .before .before .receive-ready .ensures) (c .before .if1 .taken))
+    (record { answer = c .answer .ensures; queue-bytes = refl })
 
-cast-purged : tie.Need-cast-purged
-cast-purged c = search needs
-
-after-abort-requires : tie.Need-after-abort-requires
-after-abort-requires c κs = search needs
-
-with-send-requires : tie.Need-with-send-requires
-with-send-requires c κs = search needs
-
-answer-requires-2 : tie.Need-answer-requires-2
-answer-requires-2 c κs = search needs
+carry-requires : tie.Need-carry-requires
+carry-requires c κs =
+    let past = c .before .before .before .before in
+    let older = past .before .before .before .before in
+    let a = older .args in
+    let ready = said (past .before .before .receive-ready .ensures) (past .before .if1 .left) in
+    let other = abort-raises (a .d .shared) (a .d .send) (a .tick) [] in
+    (rw (c .before .with-send .ensures) ready, rw (past .abort .ensures) other)
 
 returns-2 : tie.Need-returns-2
+unfolding aborted
 returns-2 c =
-    let past = c .before .before .before .before .before .before .before .before .before in
-    let a = past .before .before .before .args in
-    let queue-ready = past .before .queue-ready in
-    let if1 = past .if1 in
-    let after-abort = c .before .before .before .before .after-abort in
-    let with-send = c .before .before .before .with-send in
-    queue-met 0 _ [] _ _ (abort-quiet (a .tick) (a .d) (lends (now (a .queue)) [] []) (said (queue-ready .ensures) (if1 .left)) (not-true _ (c .before .if2 .taken)))
-    (c .answer2 .ensures ∙ rw (with-send .ensures, after-abort .ensures)) refl
-
-event-of-requires : tie.Need-event-of-requires
-event-of-requires c κs = search needs
-
-note-requires : tie.Need-note-requires
-note-requires c κs =
-    let past = c .before .before .before .before .before .before .before .before .before .before in
-    let a = past .before .before .before .args in
-    may-note (a .d) (lends (now (a .queue)) [] []) 3 (a .tick) _ (said (past .before .queue-ready .ensures) (past .if1 .left)) (λ h. omega arith)
-    (ap (λ (x : Device). x .receive) (c .before .before .before .before .with-send .ensures)) (c .before .event-of .ensures)
-
-answer-requires-3 : tie.Need-answer-requires-3
-answer-requires-3 c κs = search needs
-
-same-length : tie.Need-same-length
-same-length c = search needs
-
-returns-3 : tie.Need-returns-3
-returns-3 c =
-    let past = c .before .before .before .before .before .before .before .before in
-    let older = past .before .before .before .before .before .before in
+    let past = c .before .before .before .before .before in
+    let older = past .before .before .before .before in
     let a = older .before .before .before .args in
-    let queue-ready = older .before .queue-ready in
-    let if1 = older .if1 in
-    let after-abort = past .before .after-abort in
-    let with-send = past .with-send in
-    let if2 = c .before .before .before .before .before .before .if2 in
-    let event-of = c .before .before .before .before .before .event-of in
-    let note = c .before .before .before .note in
-    queue-met 0 _ [] _ _ (abort-noted (a .tick) (a .d) (lends (now (a .queue)) [] []) (said (queue-ready .ensures) (if1 .left)) (not-false _ (if2 .left)))
-    (c .answer3 .ensures ∙ rw (note .ensures .device, with-send .ensures, after-abort .ensures, event-of .ensures))
-    (rw (with-send .ensures, event-of .ensures) at (note .ensures .queue-bytes))
+    let ready = said (older .before .receive-ready .ensures) (older .if1 .left) in
+    let l = lends (now (a .queue)) [] [] in
+    emptied-met (Outbox.aborted (a .d .shared) (a .d .send) (a .tick) []) (a .d) l _ _ ready _
+    (past .before .before .before .abort .ensures) (past .with-send .ensures)
+    (c .before .before .before .carry .ensures) (c .answer2 .ensures)
 
 pub abort-spec : {M : Type 1} → statement M
 abort-spec =
     tie.close
     (tie.spec
-    queue-ready-requires
-    answer-requires
+    (λ c κs. search needs)
+    (λ c κs. search needs)
     returns
-    cast-purged
-    after-abort-requires
-    with-send-requires
-    answer-requires-2
-    returns-2
-    event-of-requires
-    note-requires
-    answer-requires-3
-    same-length
-    returns-3)
+    (λ c κs. search needs)
+    (λ c κs. search needs)
+    carry-requires
+    (λ c κs. search needs)
+    (λ c. search needs)
+    returns-2)

@@ -1,66 +1,41 @@
 use mathlib.Core.Path.{refl}
 use denote.Ref.{now}
 use mathlib.Core.List.{[]}
-use Rattle.recorder.specs.Outcomes.{lends}
 use Rattle.common.proofs.Bools.{said, denied}
-use Rattle.recorder.proofs.Meeting.{send-met, send-as}
-use Rattle.recorder.proofs.SendWays.{send-2, send-refused, send-put}
+use Rattle.outbox.specs.Calls as Outbox
+use Rattle.recorder.specs.Outcomes.{lends}
+use Rattle.recorder.specs.Sending.{sent}
+use Rattle.recorder.proofs.SendWays.{lifted-met}
 use borrow.Author.Needs.{needs}
 use Rattle.recorder.proofs.sending.send.Statement.{statement}
 use Rattle.recorder.proofs.sending.send.Tie as tie
 
-send-ready-requires : tie.Need-send-ready-requires
-send-ready-requires c κs = search needs
-
-answer-requires : tie.Need-answer-requires
-answer-requires c κs = search needs
-
 returns : tie.Need-returns
+unfolding sent
 returns c =
-    let a = c .before .before .before .before .args in
-    let short = denied (c .before .before .send-ready .ensures) (c .before .if1 .taken) in
-    send-met 2 0 [] _ _ (send-2 (a .m) (a .d) (lends [] (now (a .send)) []) short) (c .answer .ensures) refl
-
-bring-requires : tie.Need-bring-requires
-bring-requires c κs = search needs
-
-answer-requires-2 : tie.Need-answer-requires-2
-answer-requires-2 c κs = search needs
+    rw (denied (c .before .before .is-receive .ensures) (c .before .if1 .taken))
+    (record { answer = c .answer .ensures; send-bytes = refl })
 
 returns-2 : tie.Need-returns-2
+unfolding sent
 returns-2 c =
-    let past = c .before .before .before in
-    let a = past .before .before .before .before .args in
-    let ready = said (past .before .before .send-ready .ensures) (past .before .if1 .left) in
-    let l = lends [] (now (a .send)) [] in
-    send-met _ 0 [] _ _ (send-refused (a .m) (a .d) l ready _ (past .bring .ensures) (c .before .if2 .taken)) (c .answer2 .ensures) refl
-
-put-message-requires : tie.Need-put-message-requires
-put-message-requires c κs = search needs
-
-same-length : tie.Need-same-length
-same-length c = search needs
-
-returns-3 : tie.Need-returns-3
-returns-3 c =
     let past = c .before .before .before .before .before in
-    let b = past .before .before .bring in
-    let early = past .before .before .before in
-    let a = early .before .before .before .args in
-    let ready = said (early .before .send-ready .ensures) (early .if1 .left) in
-    send-as (send-put (a .m) (a .d) (lends [] (now (a .send)) []) ready _ (b .ensures) (past .if2 .left))
-    (c .before .before .put-message .ensures)
+    let older = past .before .before .before .before .before in
+    let a = older .args in
+    let l = lends [] (now (a .send)) [] in
+    let ready = said (past .before .before .before .is-receive .ensures) (past .before .before .if1 .left) in
+    lifted-met (Outbox.sent (a .d .shared) (a .d .send) (a .m) (now (a .send))) (a .d) l _ _ ready
+    _ _ (past .send .ensures) (c .before .with-send .ensures) (c .answer2 .ensures)
 
 pub send-spec : {M : Type 1} → statement M
 send-spec =
     tie.close
     (tie.spec
-    send-ready-requires
-    answer-requires
+    (λ c κs. search needs)
+    (λ c κs. search needs)
     returns
-    bring-requires
-    answer-requires-2
-    returns-2
-    put-message-requires
-    same-length
-    returns-3)
+    (λ c κs. search needs)
+    (λ c κs. search needs)
+    (λ c κs. search needs)
+    (λ c. search needs)
+    returns-2)
