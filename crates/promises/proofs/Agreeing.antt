@@ -172,7 +172,8 @@ notes e i o out a b f h =
 -- an event that is raised only where a test holds
 pub notes-if : (c c′ : Bool) → c ≡ c′ → (e : Event) (i : ℕ) (o : Outcome) (out : List ℕ) (a : Said) (b : Box) → SoundEvent e
     → Agrees o out (steps a b)
-    → Agrees (pick c (noted e o) o) out (steps a (box (b .shared) (Model.noted (b .shared) i (pick c′ (some e) none) (b .inbox)) (b .outbox)))
+    → Agrees (pick c (noted e o) o) out
+    (steps a (box (b .shared) (Model.noted (b .shared) i (pick c′ (some e) none) (b .inbox)) (b .outbox)))
 notes-if true c′ same e i o out a b f h = rw (← same) (notes e i o out a b f h)
 notes-if false c′ same e i o out a b f h = rw (← same) h
 

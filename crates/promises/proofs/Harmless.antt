@@ -76,7 +76,8 @@ module _ (ns : List ℕ) (d : Device) (l : Lent) where
   succeeds v b e m h = no-refusal (ends 0 v b e m) h refl
 
   -- and so it does with an event raised beside it
-  succeeds-noted : (e : Event) (v : ℕ) (bs : List ℕ) (f : Device) (m : Lent) → among 0 ns ≡ true → H (noted e (ends 0 v bs f m))
+  succeeds-noted : (e : Event) (v : ℕ) (bs : List ℕ) (f : Device) (m : Lent) → among 0 ns ≡ true
+      → H (noted e (ends 0 v bs f m))
   unfolding noted
   succeeds-noted e v bs f m h = succeeds v bs _ _ h
 
@@ -369,7 +370,8 @@ module _ (d : Device) (l : Lent) where
     send-text-fine =
         both T (goodReceive (d .receive)) _ _
         (read-is (λ s. T (lifted (Wire.readSent (d .shared) (d .send) (Wire.readAs s) (l .send)) d l))
-        (d .shared .align) (formatOf (d .shared) (d .shared .format)) text (read-fine 6 0 noMessage refl refl (refused-text 6 0 refl refl))
+        (d .shared .align) (formatOf (d .shared) (d .shared .format)) text
+        (read-fine 6 0 noMessage refl refl (refused-text 6 0 refl refl))
         (λ n h. own n noMessage h) (λ f. read-fine 0 _ _ refl refl (taken-text _ _ _)))
         (refused-text 2 0 refl refl)
 

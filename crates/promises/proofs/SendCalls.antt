@@ -46,7 +46,8 @@ use Rattle.promises.specs.Calls.{outcome}
 use Rattle.promises.specs.Stands.{Holds, SoundMessage, Register, Sends, Stands}
 use Rattle.promises.proofs.Holding.{all-snoc, holds-count, holds-more, holds-rest, holds-none}
 use Rattle.promises.proofs.Sound.{message-is, message-event-sound, sent-sound}
-use Rattle.promises.proofs.Agreeing.{receive-usable, receive-possible, send-possible, Agrees, agrees-as, goes-first, goes-second, notes, notes-if, told}
+use Rattle.promises.proofs.Agreeing.{receive-usable, receive-possible, send-possible, Agrees}
+use Rattle.promises.proofs.Agreeing.{agrees-as, goes-first, goes-second, notes, notes-if, told}
 
 -- a step of the box that a send call makes
 abbrev Mailed : Device → ℕ → Inbox → Posted → Step
@@ -299,7 +300,8 @@ module _ (d : Device) (q t out : List ℕ) (i : ℕ) (b : Inbox) (o : Outbox) (h
       by : (r : Option Message) → Register (d .send .held) (d .send .message) r
           → Agrees
           (pick (d .send .held)
-          (Ended.noted (eventOf 3 tick (d .send .message)) (ends 0 (d .send .ring .count) [] (withSend d (afterAbort (d .send))) l))
+          (Ended.noted (eventOf 3 tick (d .send .message))
+          (ends 0 (d .send .ring .count) [] (withSend d (afterAbort (d .send))) l))
           (ends 0 (d .send .ring .count) [] (withSend d (afterAbort (d .send))) l))
           out (Mailed d i b (posted (counts (length (o .buffer))) after (aborts r tick)))
       by none z = goes-second (d .send .held) out _ _ (z .0) purge

@@ -4,25 +4,9 @@ use crate::Answer;
 use crate::Device;
 use crate::Taken;
 use crate::state;
-use outbox::Raised;
-ghost use mathlib.Core.Path.{_≡_};
-ghost use mathlib.Core.Bool.{true};
 ghost use mathlib.Core.List.{[]};
-ghost use Rattle.queue.specs.Queue.{usable};
-ghost use Rattle.recorder.specs.Outcomes.{lends, QueueMet, TakeMet, NoteMet};
-ghost use Rattle.recorder.specs.Sending.{carried, taken, finished, aborted};
-
-// The device after the event that a call on its send channel raises, over a receive side that was judged.
-fn carry(d: Device, r: Raised, queue: &mut [u8]) -> Device
-    requires { ⌜ (usable (d .receive) (now queue) ≡ true) × (r .code ≡ 1 → ⊥) ⌝ }
-    ensures { λ n. ⌜ NoteMet (carried r (d .shared) (d .receive) (now (queue .entry))) d n (now (queue .exit)) ⌝ }
-{
-    if r.code == 0 {
-        return d;
-    }
-    let m = r.message;
-    state::note(d, records::raised::event_of(r.code, r.tick, m), queue)
-}
+ghost use Rattle.recorder.specs.Outcomes.{lends, QueueMet, TakeMet};
+ghost use Rattle.recorder.specs.Sending.{taken, finished, aborted};
 
 // Moves the oldest message to the register.
 pub fn take(d: Device, tick: u32, send: &[u8], queue: &mut [u8]) -> Taken
@@ -39,8 +23,18 @@ pub fn take(d: Device, tick: u32, send: &[u8], queue: &mut [u8]) -> Taken
     let o = outbox::calls::take(d.shared, d.send, tick, send);
     let b = o.bytes;
     let next = o.send;
+    let moved = state::with_send(d, next);
     let raised = o.raised;
-    let after = carry(state::with_send(d, next), raised, queue);
+    if raised.code == 0 {
+        return Taken {
+            number: o.number,
+            bytes: b,
+            device: moved,
+        };
+    }
+    let m = raised.message;
+    let e = records::raised::event_of(raised.code, raised.tick, m);
+    let after = state::note(moved, e, queue);
     Taken {
         number: o.number,
         bytes: b,
@@ -57,9 +51,14 @@ pub fn done(d: Device, tick: u32, queue: &mut [u8]) -> Answer
     }
     let o = outbox::calls::done(d.shared, d.send, tick);
     let next = o.send;
+    let moved = state::with_send(d, next);
     let raised = o.raised;
-    let after = carry(state::with_send(d, next), raised, queue);
-    state::answer(o.number, o.value, after)
+    if raised.code == 0 {
+        return state::answer(o.number, o.value, moved);
+    }
+    let m = raised.message;
+    let e = records::raised::event_of(raised.code, raised.tick, m);
+    state::answer(o.number, o.value, state::note(moved, e, queue))
 }
 
 // Empties the register, aborting its message, and purges the buffer; answers how many were purged.
@@ -71,7 +70,12 @@ pub fn abort(d: Device, tick: u32, queue: &mut [u8]) -> Answer
     }
     let o = outbox::calls::abort(d.shared, d.send, tick);
     let next = o.send;
+    let moved = state::with_send(d, next);
     let raised = o.raised;
-    let after = carry(state::with_send(d, next), raised, queue);
-    state::answer(o.number, o.value, after)
+    if raised.code == 0 {
+        return state::answer(o.number, o.value, moved);
+    }
+    let m = raised.message;
+    let e = records::raised::event_of(raised.code, raised.tick, m);
+    state::answer(o.number, o.value, state::note(moved, e, queue))
 }

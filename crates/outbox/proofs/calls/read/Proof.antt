@@ -5,8 +5,9 @@ use Rattle.outbox.proofs.calls.read.Tie as tie
 returns : tie.Need-returns
 returns c =
     let past = c .before .before .before .before .before in
+    let told = c .before .before .before .enum-told .given .1 in
     rw (c .used-by .ensures, c .before .number-of .ensures, c .before .before .no-message .ensures)
-    (rw (← past .before .format-of .ensures, ← past .read-message .ensures, c .before .before .before .enum-told .given .1))
+    (rw (← past .before .format-of .ensures, ← past .read-message .ensures, told))
 
 returns-2 : tie.Need-returns-2
 returns-2 c =

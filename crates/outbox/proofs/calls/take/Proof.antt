@@ -33,7 +33,8 @@ returns-2 c =
     let n = found-number (a .h) (a .s) (now (a .table)) found in
     let m = found-message (a .h) (a .s) (now (a .table)) found (past .if1 .left) in
     read-done _ _ 0 _ (a .s) (now (a .table)) _ n takenOf (past .if1 .left)
-    (rw (c .before .before .before .bytes-of .ensures, c .before .before .after-take .ensures, c .raised-if .ensures) (rw (c .before .raises-at-take .ensures, m)))
+    (rw (c .before .before .before .bytes-of .ensures, c .before .before .after-take .ensures, c .raised-if .ensures)
+    (rw (c .before .raises-at-take .ensures, m)))
 
 pub take-spec : {M : Type 1} → statement M
 take-spec =
