@@ -1,13 +1,12 @@
 // The event text and its room.
 use crate::queueing;
 use crate::setting;
-use crate::words;
 use recorder::Device;
 use recorder::receiving;
 
 // The number of a read into a room.
 fn write_room(said: &[u8], number: u32) {
-    words::says(said);
+    show::words::says(said);
     show::write_number(number);
     show::write_text(b"\n");
 }
@@ -19,7 +18,7 @@ fn read(d: Device, queue: &[u8]) {
     let mut room = [0u8; 80];
     let good = receiving::read_text(refused.device, queue, &mut room);
     write_room(b"80 good", good.number);
-    words::says(b"`received` TAB `0:12568` TAB `00000112` TAB `1` TAB `0` TAB `5` LF");
+    show::words::says(b"`received` TAB `0:12568` TAB `00000112` TAB `1` TAB `0` TAB `5` LF");
     show::write_front(&room, good.value);
 }
 

@@ -1,12 +1,11 @@
 // Identifiers under an Align, the filter, and the identifiers that it lets through.
 use crate::setting;
-use crate::words;
 use recorder::printing;
 use recorder::receiving;
 
 // The line of raw identifier 731.
 fn shown(said: &[u8], align: u32) {
-    words::says(said);
+    show::words::says(said);
     let queue = [0u8; 32];
     let send = [0u8; 16];
     let d = setting::open(align, 0, 0, &queue, &send);
@@ -22,18 +21,18 @@ fn shown(said: &[u8], align: u32) {
 
 // Frame 200 raised as received.
 fn met(said: &[u8], dlc: u32, first: u8) {
-    words::says(said);
+    show::words::says(said);
     let mut queue = [0u8; 32];
     let send = [0u8; 16];
     let d = setting::open(0, 0x40000100, 0x000000FF, &queue, &send);
     let m = setting::frame(0x200, 0, dlc, first, 7);
     let raised = receiving::raise(d, 1, 0, m, &mut queue);
-    words::write_raised(raised.number);
+    show::words::write_raised(raised.number);
 }
 
 // The standard identifiers let through at Align 1.
 fn through(said: &[u8], code: u32, mask: u32) {
-    words::says(said);
+    show::words::says(said);
     let queue = [0u8; 32];
     let send = [0u8; 16];
     let d = setting::open(1, code, mask, &queue, &send);

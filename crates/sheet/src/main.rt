@@ -4,7 +4,6 @@ mod identifiers;
 mod message_texts;
 mod queueing;
 mod setting;
-mod words;
 
 fn main() {
     message_texts::cases();

@@ -1,6 +1,5 @@
 // The message texts of the sheet.
 use crate::setting;
-use crate::words;
 use recorder::Device;
 use recorder::register;
 use recorder::sending;
@@ -32,9 +31,9 @@ fn send(text: &[u8], queue: &mut [u8], table: &mut [u8]) {
 }
 
 fn case(proved: bool, text: &[u8], said: &[u8]) {
-    words::mark(proved);
-    words::write_quoted(text);
-    words::says(said);
+    show::words::mark(proved);
+    show::words::write_quoted(text);
+    show::words::says(said);
     send(text, &mut [0u8; 32], &mut [0u8; 16]);
 }
 

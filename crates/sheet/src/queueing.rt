@@ -1,6 +1,5 @@
 // The queue and its lost counts: an event is known again by its tick, here a letter or a digit.
 use crate::setting;
-use crate::words;
 use recorder::Device;
 use recorder::receiving;
 
@@ -79,10 +78,10 @@ fn recorded(queue: &mut [u8]) {
 }
 
 pub fn cases() {
-    words::says(b"P capacity 1, raise A, B, C, read, raise D: A has lost 0, D has lost 2");
+    show::words::says(b"P capacity 1, raise A, B, C, read, raise D: A has lost 0, D has lost 2");
     lost(&mut [0u8; 32]);
-    words::says(b"Raise 1, 2, read, raise 3, 4, read, raise 5: capacity 1 records 1, 3, 5");
+    show::words::says(b"Raise 1, 2, read, raise 3, 4, read, raise 5: capacity 1 records 1, 3, 5");
     recorded(&mut [0u8; 32]);
-    words::says(b"capacity 2 records 1, 2, 3, 5");
+    show::words::says(b"capacity 2 records 1, 2, 3, 5");
     recorded(&mut [0u8; 64]);
 }

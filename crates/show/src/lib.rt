@@ -1,4 +1,6 @@
 // What the programs show: lines of 32 digits or of a refusal, and words and numbers on standard output.
+pub mod words;
+
 use digits::writing;
 use libc::STDOUT_FILENO;
 ghost use mathlib.Core.Path.{_≡_};

@@ -1,8 +1,8 @@
 use Prim.Native.Nat.{_≤_, _-_}
 use borrow.Author.Needs.{needs}
 use lib.ListN.{length}
-use Rattle.sheet.proofs.words.write_quoted.Statement.{statement}
-use Rattle.sheet.proofs.words.write_quoted.Tie as tie
+use Rattle.show.proofs.words.write_quoted.Statement.{statement}
+use Rattle.show.proofs.words.write_quoted.Tie as tie
 
 abbrev Inv-loop : tie.InvT-loop
 Inv-loop text i₀ t4 i = i ≤ length text
