@@ -3,25 +3,22 @@ use mathlib.Core.Path.{_≡_, refl}
 use mathlib.Core.Bool.{Bool, true, false}
 use mathlib.Core.List.{List, []}
 use Prim.Native.Nat.{ℕ}
-use lib.ListN.{length}
-use lib.Dec.{ltb, eqb}
+use lib.Dec.{eqb}
 use Rattle.common.specs.Choice.{pick}
 use Rattle.common.proofs.Bools.{apart}
 use Rattle.common.proofs.Choices.{pick-is}
-use Rattle.ids.specs.Ids.{isFormat}
-use Rattle.ids.specs.EventMask.{isMask}
-use Rattle.records.specs.Events.{isEvent}
-use Rattle.records.specs.Raised.{frameRefusal}
 use Rattle.records.specs.declared.Message.{Message}
-use Rattle.event_text.specs.Lines.{eventRoom}
 use Rattle.settings.specs.Ranges.{goodShared}
 use Rattle.settings.specs.declared.Shared.{Shared}
-use Rattle.queue.specs.Queue.{goodReceive, usable, slotAt}
+use Rattle.inbox.specs.Channel.{goodReceive, usable}
+use Rattle.inbox.specs.Refusals.{recordRefusal, filterRefusal, maskRefusal, throughRefusal}
+use Rattle.inbox.specs.Calls as Inbox
+use Rattle.outbox.specs.Channel.{goodSend}
 use Rattle.outbox.specs.Refusals.{doneRefusal, abortRefusal}
 use Rattle.outbox.specs.Calls as Outbox
-use Rattle.recorder.specs.State.{good}
-use Rattle.recorder.specs.Outcomes.{Lent, Outcome, queueReady, noted}
-use Rattle.recorder.specs.Receiving.{changed, filterSet, eventMaskSet, raised, recordRead, textRead, lookSaid, through}
+use Rattle.recorder.specs.State.{good, withReceive}
+use Rattle.recorder.specs.Outcomes.{Lent, Outcome, refuses, queueReady, noted}
+use Rattle.recorder.specs.Receiving.{lifted, received, changed, filterSet, eventMaskSet, raised, recordRead, textRead, lookSaid, through}
 use Rattle.recorder.specs.Sending.{carrying, sent, textSent, taken, finished, aborted}
 use Rattle.recorder.specs.Printing.{linePrinted}
 use Rattle.recorder.specs.declared.Device.{Device}
@@ -63,12 +60,20 @@ module _ (d : Device) (l : Lent) where
   -- a raise
   raised-blind : (code tick : ℕ) (m : Message) → Blind onQueue (raised code tick m d)
   unfolding raised
-  raised-blind code tick m = both Q (queueReady d l) (both Q (eqb (frameRefusal code m) 0) refl refl) refl
+  raised-blind code tick m = both Q (goodSend (d .send)) refl refl
+
+  -- a choice of what the inbox answers
+  either : (v : Borrows) (c : Bool) (a b : Inbox.Outcome) → Blind v (lifted a d) → Blind v (lifted b d)
+      → Blind v (lifted (pick c a b) d)
+  either v true a b x y = x
+  either v false a b x y = y
 
   -- a read as bytes
   record-blind : Blind onQueue (recordRead d)
-  unfolding recordRead
-  record-blind = both Q (queueReady d l) refl refl
+  unfolding recordRead Inbox.recordRead
+  record-blind =
+      both Q (goodSend (d .send)) (either onQueue (eqb (recordRefusal (d .shared) (d .receive) (l .queue)) 0) _ _ refl refl)
+      refl
 
   -- the register is emptied, or not: the message table stays
   emptied-blind : (n : ℕ) (effect : List ℕ → Outbox.Outcome) → ((t : List ℕ) → effect t ≡ onTableOf (effect []) t)
@@ -100,12 +105,7 @@ module _ (d : Device) (l : Lent) where
   -- a read as text: the event table and the buffer
   text-blind : Blind (borrows true true false true) (textRead d)
   unfolding textRead
-  text-blind =
-      let f : Outcome → Outcome = λ o. whole (borrows true true false true) l o in
-      both f (queueReady d l)
-      (both f (ltb (length (l .out)) eventRoom) refl
-      (both f (eqb (d .receive .ring .count) 0) refl (both f (isEvent (slotAt (d .receive) (l .queue) 0)) refl refl)))
-      refl
+  text-blind = both (λ o. whole (borrows true true false true) l o) (goodSend (d .send)) refl refl
 
   -- take: both tables
   take-blind : (tick : ℕ) → Blind (borrows true true true false) (taken tick d)
@@ -140,24 +140,28 @@ module _ (d : Device) (l : Lent) where
       let f : Outcome → Outcome = λ o. whole (borrows false false false true) l o in
       both f (good d) (both f (eqb n 0) refl refl) refl
 
-  -- a change of the filter: nothing lent
+  -- a call on the receive channel that is lent nothing, or not refused
+  unlent : (v : Borrows) (c : Bool) (a b : Inbox.Outcome) → Blind v (lifted a d) → Blind v (lifted b d)
+      → Blind v (refuses 2 d) → Blind v (received (pick c a b) d)
+  unlent v c a b x y z = both (λ o. whole v l o) (goodSend (d .send)) (either v c a b x y) z
+
+  -- a change of the filter
   filter-blind : (code mask : ℕ) → Blind (borrows true false false false) (filterSet code mask d)
-  unfolding filterSet
-  filter-blind code mask = both (λ o. whole (borrows true false false false) l o) (good d) refl refl
+  unfolding filterSet Inbox.filterSet
+  filter-blind code mask =
+      unlent (borrows true false false false) (eqb (filterRefusal (d .shared) (d .receive)) 0) _ _ refl refl refl
 
   -- a change of the event mask
   mask-blind : (mask : ℕ) → Blind (borrows true false false false) (eventMaskSet mask d)
-  unfolding eventMaskSet
+  unfolding eventMaskSet Inbox.eventMaskSet
   mask-blind mask =
-      let f : Outcome → Outcome = λ o. whole (borrows true false false false) l o in
-      both f (good d) (both f (isMask mask) refl refl) refl
+      unlent (borrows true false false false) (eqb (maskRefusal (d .shared) (d .receive) mask) 0) _ _ refl refl refl
 
   -- the identifiers let through
   through-blind : (format : ℕ) → Blind (borrows false false false false) (through format d)
-  unfolding through
+  unfolding through Inbox.through
   through-blind format =
-      let f : Outcome → Outcome = λ o. whole (borrows false false false false) l o in
-      both f (good d) (both f (isFormat format) refl refl) refl
+      unlent (borrows false false false false) (eqb (throughRefusal (d .shared) (d .receive) format) 0) _ _ refl refl refl
 
 -- THEOREM. A call sees nothing of what it is not lent, and leaves it
 pub blind : (x : Call) (d : Device) (l : Lent)
@@ -192,7 +196,7 @@ print-still n line d l =
 
 -- THEOREM. A call that only reads the state leaves the device
 pub reads-only : (x : Call) (d : Device) (l : Lent) → borrowed x .writes ≡ false → d ≡ outcome x d l .device
-unfolding borrowed outcome through
+unfolding borrowed outcome through Inbox.through
 reads-only (onDevice x) d l h = absurd (apart h)
 reads-only (onReceive readRecord) d l h = absurd (apart h)
 reads-only (onReceive readText) d l h = absurd (apart h)
@@ -200,8 +204,10 @@ reads-only (onReceive (look p)) d l h = refl
 reads-only (onReceive (setFilter code mask)) d l h = absurd (apart h)
 reads-only (onReceive (setEventMask mask)) d l h = absurd (apart h)
 reads-only (onReceive (identifiersThrough format)) d l h =
-    let Same : Outcome → Type 0 = λ o. d ≡ o .device in
-    pick-is Same (good d) (λ e. pick-is Same (isFormat format) (λ f. refl) (λ f. refl)) (λ e. refl)
+    pick-is (λ (o : Outcome). d ≡ o .device) (goodSend (d .send))
+    (λ e. pick-is (λ (o : Inbox.Outcome). d ≡ withReceive d (o .receive))
+    (eqb (throughRefusal (d .shared) (d .receive) format) 0) (λ f. refl) (λ f. refl))
+    (λ e. refl)
 reads-only (onSend (send m)) d l h = absurd (apart h)
 reads-only (onSend (sendText text)) d l h = absurd (apart h)
 reads-only (onSend (take tick)) d l h = absurd (apart h)

@@ -10,10 +10,16 @@ use Rattle.common.specs.Choice.{pick}
 use Rattle.common.specs.Refusals.{isRefusal}
 use Rattle.common.specs.Slots.{slot}
 use Rattle.common.specs.Sublist.{Sublist}
-use Rattle.common.proofs.Choices.{by-test, pick-is}
+use Rattle.common.proofs.Bools.{and-left, and-right}
+use Rattle.common.proofs.Choices.{by-test, pick-is, passed}
 use Rattle.records.specs.Events.{eventSize}
+use Rattle.settings.specs.Ranges.{goodShared}
 use Rattle.settings.specs.declared.Settings.{Settings}
-use Rattle.queue.specs.Queue.{looked, lookedAt}
+use Rattle.inbox.specs.Channel.{goodReceive, queueFits}
+use Rattle.inbox.specs.Refusals.{possible, ready, lookRefusal}
+use Rattle.inbox.specs.Calls.{looked, lookedAt}
+use Rattle.inbox.proofs.Laws.{look-free, ready-fits}
+use Rattle.outbox.specs.Channel.{goodSend}
 use Rattle.recorder.specs.State.{good}
 use Rattle.recorder.specs.Outcomes.{Lent, lends, Outcome}
 use Rattle.recorder.specs.Receiving.{opened, lookSaid}
@@ -210,9 +216,23 @@ pub look-called : (p : ℕ) (s : List ℕ) (l : Lent)
     × (lookNumberOn p s (l .queue) ≡ 0
     → called (onReceive (look p)) s l .bytes
     ≡ take eventSize (drop (lookedAt (deviceIn s .receive) (l .queue) p) (l .queue)))
-unfolding called borrowed on outcome lookNumberOn lookSaid looked lookedAt slot
+unfolding called borrowed on outcome lookNumberOn lookSaid looked lookedAt slot good ready possible
 look-called p s l =
-    by-test (isState s)
-    (λ x. by-test (good (deviceIn s)) (λ y. rw (x, y) (refl, λ h. rw h))
-    (λ y. rw (x, y) (refl, λ h. absurd (omega (arith, h)))))
+    by-test (isState s) (λ x. rw x (refl, shown))
     (λ x. rw x (refl, λ h. absurd (omega (arith, h))))
+  where
+    d : Device
+    d = deviceIn s
+
+    q : List ℕ
+    q = l .queue
+
+    shown : lookSaid p d (lends q [] []) ≡ 0
+        → pick (good d) (looked (d .receive) q p) [] ≡ take eventSize (drop (lookedAt (d .receive) q p) q)
+    shown h =
+        let z = passed (goodSend (d .send)) (lookRefusal (d .shared) (d .receive) (length q) p) 2 refl h in
+        let f = look-free (d .shared) (d .receive) (length q) p _ refl (z .1) in
+        let able = and-left (possible (d .shared) (d .receive)) (queueFits (d .receive) (length q)) (f .0) in
+        let shared = and-left (goodShared (d .shared)) (goodReceive (d .receive)) able in
+        let receive = and-right (goodShared (d .shared)) (goodReceive (d .receive)) able in
+        rw (shared, receive, z .0, ready-fits (d .shared) (d .receive) (length q) (f .0), f .1)

@@ -3,18 +3,21 @@ use mathlib.Core.Path.{_≡_, refl, sym, ap, _∙_}
 use mathlib.Core.List.{List, []}
 use mathlib.Core.Bool.{Bool, true, false, _&&_}
 use Prim.Native.Nat.{ℕ, _*_}
-use native.Mathlib.Omega.{arith}
 use lib.ListN.{length}
 use lib.Dec.{ltb}
 use borrow.Author.Tests.{eq-eqb, ne-eqb}
 use Rattle.common.specs.Choice.{pick}
 use Rattle.common.specs.Rings.{slotOf}
 use Rattle.common.specs.Refusals.{isRefusal}
+use Rattle.common.proofs.Choices.{passed}
 use Rattle.records.specs.Events.{eventSize}
 use Rattle.digits.specs.declared.Printed.{Printed}
 use Rattle.settings.specs.declared.Settings.{Settings}
-use Rattle.queue.specs.Queue.{usable, queueFits, lookNumber, lookedAt}
-use Rattle.outbox.specs.Channel.{sendFits}
+use Rattle.inbox.specs.Channel.{usable, queueFits}
+use Rattle.inbox.specs.Refusals.{ready, lookRefusal}
+use Rattle.inbox.specs.Calls.{lookedAt}
+use Rattle.inbox.proofs.Laws.{look-free, ready-fits}
+use Rattle.outbox.specs.Channel.{goodSend, sendFits}
 use Rattle.outbox.specs.Refusals.{possible, abortRefusal}
 use Rattle.outbox.specs.Calls as Outbox
 use Rattle.recorder.specs.State.{good, fresh, noDevice}
@@ -169,21 +172,20 @@ abort-called tick s l h {d} e {was = was} m v w =
 
 -- a look answers 0, 2 or 4
 look-numbers : (P : ℕ → Type 0) (p : ℕ) (d : Device) (t : List ℕ) → P 0 → P 2 → P 4 → P (lookSaid p d (lends t [] []))
-unfolding lookSaid lookNumber
-look-numbers P p d t p0 p2 p4 = both P (good d) _ _ (both P (usable (d .receive) t) _ _ (both P (ltb p (d .receive .ring .count)) _ _ p0 p4) p2) p2
+unfolding lookSaid lookRefusal
+look-numbers P p d t p0 p2 p4 =
+    both P (goodSend (d .send)) _ _
+    (both P (ready (d .shared) (d .receive) (length t)) _ _ (both P (ltb p (d .receive .ring .count)) _ _ p0 p4) p2) p2
 
 look-refusal : (p : ℕ) (d : Device) (t : List ℕ) → (lookSaid p d (lends t [] []) ≡ 0 → ⊥) → isRefusal (lookSaid p d (lends t [] [])) ≡ true
 unfolding isRefusal
 look-refusal p d t = look-numbers (λ k. (k ≡ 0 → ⊥) → isRefusal k ≡ true) p d t (λ z. absurd (z refl)) (λ z. refl) (λ z. refl)
 
--- a look that answers 0 is one that the queue takes
-pub look-taken : (p : ℕ) (d : Device) (t : List ℕ) → lookSaid p d (lends t [] []) ≡ 0 → lookNumber (d .receive) t p ≡ 0
+-- a look that answers 0 is one that the inbox takes
+pub look-taken : (p : ℕ) (d : Device) (t : List ℕ) → lookSaid p d (lends t [] []) ≡ 0
+    → lookRefusal (d .shared) (d .receive) (length t) p ≡ 0
 unfolding lookSaid
-look-taken p d t h = by (good d) h
-  where
-    by : (b : Bool) → pick b (lookNumber (d .receive) t p) 2 ≡ 0 → lookNumber (d .receive) t p ≡ 0
-    by true x = x
-    by false x = absurd (omega arith)
+look-taken p d t h = passed (goodSend (d .send)) (lookRefusal (d .shared) (d .receive) (length t) p) 2 refl h .1
 
 -- the ways out of a look
 module _ (p : ℕ) (s t : List ℕ) where
@@ -208,7 +210,9 @@ module _ (p : ℕ) (s t : List ℕ) where
     pub look-shown : (was i : ℕ) → n ≡ 0 → i ≡ slotOf (d .receive .ring) p → LookCalled p s t was 0 (eventSize * i)
     unfolding isRefusal lookedAt
     look-shown was i z ei =
-        record { number = sym z ∙ look-number; value = rw (← look-number, z, ← e, look-taken p d t (sym m ∙ z), ei) }
+        let f = look-free (d .shared) (d .receive) (length t) p _ refl (look-taken p d t (sym m ∙ z)) in
+        let fits = ready-fits (d .shared) (d .receive) (length t) (f .0) in
+        record { number = sym z ∙ look-number; value = rw (← look-number, z, ← e, fits, f .1, ei) }
 
 -- the ways out of opening
 module _ (given : Settings) (s : List ℕ) (l : Lent) {r : Answer} (a : r ≡ answerOf (opened given l)) where

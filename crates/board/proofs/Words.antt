@@ -19,8 +19,8 @@ use Rattle.records.proofs.RoundTrip.{good-refusal}
 use Rattle.settings.specs.Ranges.{goodShared}
 use Rattle.settings.specs.TxMode.{goodTx}
 use Rattle.settings.specs.declared.Shared.{Shared}
-use Rattle.queue.specs.Queue.{queueLimit}
-use Rattle.queue.specs.declared.Receive.{Receive}
+use Rattle.inbox.specs.Channel.{queueLimit}
+use Rattle.inbox.specs.declared.Receive.{Receive}
 use Rattle.outbox.specs.Channel.{sendLimit}
 use Rattle.outbox.specs.declared.Send.{Send}
 use Rattle.recorder.specs.declared.Device.{Device}

@@ -6,7 +6,7 @@ use lib.ListN.{length}
 use lib.Dec.{eqb}
 use Rattle.common.specs.Choice.{pick}
 use Rattle.settings.specs.declared.Settings.{Settings}
-use Rattle.queue.specs.Queue.{lookedAt}
+use Rattle.inbox.specs.Calls.{lookedAt}
 use Rattle.recorder.specs.State.{noDevice}
 use Rattle.recorder.specs.Outcomes.{Lent, Outcome, lends, refuses}
 use Rattle.recorder.specs.Receiving.{opened, lookSaid}

@@ -95,7 +95,7 @@ pub extern "C" fn sv_look(state: &[u8], queue: &[u8], p: u32, offset: &mut usize
     }
     let receive = d.receive;
     let ring = receive.ring;
-    *offset = queue::raising::SLOT * (rings::slot_of(ring, p) as usize);
+    *offset = inbox::channel::SLOT * (rings::slot_of(ring, p) as usize);
     0
 }
 

@@ -16,7 +16,7 @@ use Rattle.common.proofs.Lists.{reads, reads-slice, reads-all}
 use Rattle.common.specs.Refusals.{isRefusal}
 use Rattle.digits.proofs.Written.{sets-append}
 use Rattle.settings.specs.declared.Shared.{Shared}
-use Rattle.queue.specs.declared.Receive.{Receive}
+use Rattle.inbox.specs.declared.Receive.{Receive}
 use Rattle.outbox.specs.declared.Send.{Send}
 use Rattle.recorder.specs.declared.Device.{Device}
 use Rattle.kept.specs.State.{front, rest, numbers, words, stateBytes, word, deviceIn, isState, queueMoved}

@@ -6,15 +6,16 @@ use lib.ListN.{length}
 use lib.Dec.{ltb, eqb}
 use Rattle.common.proofs.Choices.{pick-is}
 use Rattle.ids.specs.EventMask.{maskLets}
-use Rattle.records.specs.Events.{codeOf, isEvent}
-use Rattle.records.specs.declared.Event.{Event}
+use Rattle.records.specs.Events.{codeOf}
 use Rattle.records.specs.declared.Message.{Message}
-use Rattle.records.specs.Raised.{filtered, eventOf, frameRefusal}
-use Rattle.event_text.specs.Lines.{eventRoom}
-use Rattle.queue.specs.Queue.{usable, Raising, queued, unfiltered, raising, slotAt, reading}
-use Rattle.queue.specs.declared.ReadOut.{ReadOut}
+use Rattle.records.specs.Raised.{filtered, eventOf}
+use Rattle.inbox.specs.Refusals.{raiseRefusal, recordRefusal, textRefusal}
+use Rattle.inbox.specs.Calls.{Raising, queued, unfiltered}
+use Rattle.inbox.specs.Calls as Queue
+use Rattle.inbox.specs.declared.Receive.{Receive}
+use Rattle.outbox.specs.Channel.{goodSend}
 use Rattle.recorder.specs.State.{withReceive}
-use Rattle.recorder.specs.Outcomes.{Lent, Outcome, queueReady, answerOf, recordOf}
+use Rattle.recorder.specs.Outcomes.{Lent, Outcome, answerOf, recordOf}
 use Rattle.recorder.specs.Receiving.{raised, recordRead, textRead}
 use Rattle.recorder.specs.declared.Device.{Device}
 use Rattle.recorder.specs.declared.Answer.{Answer}
@@ -26,41 +27,37 @@ module _ (d : Device) (l : Lent) where
   Moves o = o .device ≡ queueMoved d (o .device .receive)
 
   pub raise-moves : (code tick : ℕ) (m : Message) → Moves (raised code tick m d l)
-  unfolding raised raising unfiltered queued
+  unfolding raised Queue.raised Queue.meets unfiltered queued
   raise-moves code tick m =
-      pick-is Moves (queueReady d l) (λ a. pick-is Moves (eqb (frameRefusal code m) 0) (λ b. meets (eventOf code tick m)) (λ b. refl)) (λ a. refl)
+      let e = eventOf code tick m in
+      pick-is Moves (goodSend (d .send))
+      (λ a. pick-is Moved (eqb (raiseRefusal (d .shared) (d .receive) (length (l .queue)) code m) 0)
+      (λ b. pick-is Moved (filtered (d .shared .mode) (d .shared .align) (d .receive .filter) e) (λ c. refl)
+      (λ c. pick-is Moved (maskLets (d .receive .events) (codeOf (e .kind)))
+      (λ f. pick-is Moved (ltb (d .receive .ring .count) (d .receive .ring .capacity)) (λ x. refl) (λ x. refl))
+      (λ f. refl)))
+      (λ b. refl))
+      (λ a. refl)
     where
       Moved : Raising → Type 0
       Moved g = withReceive d (g .receive) ≡ queueMoved d (g .receive)
 
-      meets : (e : Event) → Moved (raising (d .shared .mode) (d .shared .align) (d .receive) e (l .queue))
-      meets e =
-          pick-is Moved (usable (d .receive) (l .queue))
-          (λ a. pick-is Moved (filtered (d .shared .mode) (d .shared .align) (d .receive .filter) e) (λ b. refl)
-          (λ b. pick-is Moved (maskLets (d .receive .events) (codeOf (e .kind)))
-          (λ f. pick-is Moved (ltb (d .receive .ring .count) (d .receive .ring .capacity)) (λ x. refl) (λ x. refl)) (λ f. refl)))
-          (λ a. refl)
+  -- what a read leaves of the receive channel
+  abbrev Left : Queue.Outcome → Type 0
+  Left o = withReceive d (o .receive) ≡ queueMoved d (o .receive)
 
   pub record-moves : Moves (recordRead d l)
-  unfolding recordRead reading
+  unfolding recordRead Queue.recordRead
   record-moves =
-      pick-is Moves (queueReady d l)
-      (λ a. pick-is Moved (usable (d .receive) (l .queue))
-      (λ b. pick-is Moved (eqb (d .receive .ring .count) 0) (λ f. refl) (λ f. pick-is Moved (isEvent (slotAt (d .receive) (l .queue) 0)) (λ x. refl) (λ x. refl)))
-      (λ b. refl))
+      pick-is Moves (goodSend (d .send))
+      (λ a. pick-is Left (eqb (recordRefusal (d .shared) (d .receive) (l .queue)) 0) (λ b. refl) (λ b. refl))
       (λ a. refl)
-    where
-      Moved : ReadOut → Type 0
-      Moved g = withReceive d (g .receive) ≡ queueMoved d (g .receive)
 
   pub text-moves : Moves (textRead d l)
-  unfolding textRead
+  unfolding textRead Queue.textRead
   text-moves =
-      pick-is Moves (queueReady d l)
-      (λ a. pick-is Moves (ltb (length (l .out)) eventRoom) (λ b. refl)
-      (λ b. pick-is Moves (eqb (d .receive .ring .count) 0) (λ f. refl)
-      (λ f. pick-is Moves (isEvent (slotAt (d .receive) (l .queue) 0)) (λ x. refl) (λ x. refl))))
-      (λ a. refl)
+      let n = textRefusal (d .shared) (d .receive) (l .queue) (length (l .out)) in
+      pick-is Moves (goodSend (d .send)) (λ a. pick-is Left (eqb n 0) (λ b. refl) (λ b. refl)) (λ a. refl)
 
 -- so does what the code answers, on the device that a state stands for
 module _ (s : List ℕ) (o : Outcome) {d : Device} (e : d ≡ deviceIn s) (m : o .device ≡ queueMoved d (o .device .receive)) where

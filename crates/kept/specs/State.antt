@@ -8,8 +8,8 @@ use lib.Dec.{leb, eqb}
 use Rattle.common.specs.Choice.{pick}
 use Rattle.common.specs.Numbers.{bytesOf, numberOf}
 use Rattle.settings.specs.declared.Shared.{Shared}
-use Rattle.queue.specs.Queue.{moved}
-use Rattle.queue.specs.declared.Receive.{Receive}
+use Rattle.inbox.specs.Channel.{moved}
+use Rattle.inbox.specs.declared.Receive.{Receive}
 use Rattle.outbox.specs.declared.Send.{Send}
 use Rattle.recorder.specs.State.{withReceive}
 use Rattle.recorder.specs.declared.Device.{Device}

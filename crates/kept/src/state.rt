@@ -2,8 +2,8 @@
 use common::Ring;
 use ids::Filter;
 use ids::Header;
+use inbox::Receive;
 use outbox::Send;
-use queue::Receive;
 use recorder::Device;
 use records::Message;
 use settings::Shared;

@@ -10,7 +10,7 @@ use borrow.Author.Tests.{eqb-true, eq-eqb, ne-eqb, leb-true, ltb-true}
 use Rattle.common.specs.Choice.{pick}
 use Rattle.common.specs.Rings.{goodRing, slotOf}
 use Rattle.common.proofs.Bools.{apart, and-left, and-right, said, denied}
-use Rattle.common.proofs.Choices.{by-test, pick-is}
+use Rattle.common.proofs.Choices.{by-test, pick-is, passed, stopped}
 use Rattle.common.proofs.RingFacts.{RingFacts, good-ring, slot-part}
 use Rattle.records.specs.Messages.{messageSize, goodMessage, messageIn, isMessage, judgeMessage}
 use Rattle.records.proofs.RoundTrip.{good-is, message-as}
@@ -62,16 +62,6 @@ judged h s n u =
     (and-right (goodShared h) (goodSend s) able, and-right (possible h s) (sendFits s n) u)
 
 -- ---- what a refusal of 0 says
-
--- the test of a choice whose second way is no 0 was passed
-passed : (b : Bool) (n k : ℕ) → eqb k 0 ≡ false → pick b n k ≡ 0 → (b ≡ true) × (n ≡ 0)
-passed true n k z e = (refl, e)
-passed false n k z e = absurd (apart (rw e at z))
-
--- and likewise where the first way is none
-stopped : (b : Bool) (n k : ℕ) → eqb k 0 ≡ false → pick b k n ≡ 0 → (b ≡ false) × (n ≡ 0)
-stopped true n k z e = absurd (apart (rw e at z))
-stopped false n k z e = (refl, e)
 
 -- the number tested was 0
 own-zero : (own n : ℕ) → pick (eqb own 0) n own ≡ 0 → (own ≡ 0) × (n ≡ 0)

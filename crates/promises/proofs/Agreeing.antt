@@ -17,8 +17,11 @@ use Rattle.records.specs.declared.Message.{Message}
 use Rattle.records.specs.declared.Event.{Event}
 use Rattle.records.proofs.EventRoundTrip.{event-bytes-length}
 use Rattle.settings.specs.declared.Shared.{Shared}
-use Rattle.queue.specs.Queue.{queueLimit, goodReceive, Raising, queued, unfiltered, raising, usable}
-use Rattle.queue.specs.declared.Receive.{Receive}
+use Rattle.inbox.specs.Channel.{queueLimit, goodReceive, usable}
+use Rattle.inbox.specs.Refusals.{possible, ready}
+use Rattle.inbox.specs.Calls.{Raising, queued, unfiltered}
+use Rattle.inbox.specs.Calls as Queue
+use Rattle.inbox.specs.declared.Receive.{Receive}
 use Rattle.outbox.specs.Channel.{goodSend}
 use Rattle.outbox.specs.declared.Send.{Send}
 use Rattle.recorder.specs.State.{good}
@@ -57,6 +60,15 @@ pub device-possible : (d : Device) (q t : List ℕ) (b : Box) → Stands d q t b
 unfolding good
 device-possible d q t b h =
     rw (h .possible, receive-possible (d .receive) q (b .inbox) (h .inbox), send-possible (d .send) t (b .outbox) (h .outbox))
+
+-- and so are its settings and its receive channel, ready for the event table
+pub inbox-possible : (d : Device) (q t : List ℕ) (b : Box) → Stands d q t b → possible (d .shared) (d .receive) ≡ true
+unfolding possible
+inbox-possible d q t b h = rw (h .possible, receive-possible (d .receive) q (b .inbox) (h .inbox))
+
+pub inbox-ready : (d : Device) (q t : List ℕ) (b : Box) → Stands d q t b → ready (d .shared) (d .receive) (length q) ≡ true
+unfolding ready
+inbox-ready d q t b h = rw (inbox-possible d q t b h, h .inbox .events .long)
 
 -- ---- an event meets the queue
 
@@ -118,14 +130,13 @@ module _ (r : Receive) (q : List ℕ) (b : Inbox) (h : Receives r q b) where
       )
 
   -- an event that is raised on the channel meets what it meets in the model, and the channel after it stands for the inbox after it
-  pub arrival-is : (s : Shared) (i : ℕ) (e : Event) → SoundEvent e → SameMet (raising (s .mode) (s .align) r e q) (arrival s i e b)
-  unfolding raising unfiltered arrival
+  pub arrival-is : (s : Shared) (i : ℕ) (e : Event) → SoundEvent e → SameMet (Queue.meets s r e q) (arrival s i e b)
+  unfolding Queue.meets unfiltered arrival
   arrival-is s i e f =
-      rw (receive-usable r q b h)
-      (ways (filtered (s .mode) (s .align) (r .filter) e) (filtered (s .mode) (s .align) (b .filter) e) (rw (h .filter)) (λ z. (refl, h))
+      ways (filtered (s .mode) (s .align) (r .filter) e) (filtered (s .mode) (s .align) (b .filter) e) (rw (h .filter)) (λ z. (refl, h))
       (λ z. ways (maskLets (r .events) (codeOf (e .kind))) (maskLets (b .mask) (codeOf (e .kind))) (rw (h .mask))
       (λ y. pick-queued (ltb (r .ring .count) (r .ring .capacity)) refl)
-      (λ y. (refl, h))))
+      (λ y. (refl, h)))
     where
       pick-queued : (c : Bool) → ltb (r .ring .count) (r .ring .capacity) ≡ c
           → SameMet (queued r e q) (pick (ltb (length (b .queue)) (b .places)) (meets 100 (recording i e b)) (meets 103 (losing i e b)))

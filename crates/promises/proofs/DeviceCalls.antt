@@ -14,7 +14,10 @@ use Rattle.records.specs.Raised.{eventOf, frameRefusal}
 use Rattle.records.specs.declared.Message.{Message}
 use Rattle.settings.specs.Ranges.{goodShared}
 use Rattle.settings.specs.declared.Shared.{Shared}
-use Rattle.queue.specs.Queue.{queueFits}
+use Rattle.inbox.specs.Channel.{queueFits}
+use Rattle.inbox.specs.Refusals.{ready, raiseRefusal}
+use Rattle.inbox.specs.Calls as Queue
+use Rattle.outbox.specs.Channel.{goodSend}
 use Rattle.recorder.specs.State.{good, withShared}
 use Rattle.recorder.specs.Outcomes.{Lent, lends, ends}
 use Rattle.recorder.specs.Receiving.{raised, changed}
@@ -30,7 +33,7 @@ use Rattle.promises.specs.Typed.{Word, TypedDevice}
 use Rattle.promises.specs.Calls.{outcome}
 use Rattle.promises.specs.Stands.{Stands}
 use Rattle.promises.proofs.Sound.{event-sound}
-use Rattle.promises.proofs.Agreeing.{arrival-is, device-possible, Agrees, agree-ways, notes, told}
+use Rattle.promises.proofs.Agreeing.{arrival-is, device-possible, send-possible, inbox-ready, Agrees, agree-ways, notes, told}
 
 module _ (d : Device) (q t out : List ℕ) (i : ℕ) (b : Inbox) (o : Outbox) (h : Stands d q t (box (d .shared) b o)) where
   abbrev l : Lent
@@ -46,19 +49,25 @@ module _ (d : Device) (q t out : List ℕ) (i : ℕ) (b : Inbox) (o : Outbox) (h
   long : queueFits (d .receive) (length q) ≡ true
   long = h .inbox .events .long
 
+  sends : goodSend (d .send) ≡ true
+  sends = send-possible (d .send) t o (h .outbox)
+
+  prepared : ready (d .shared) (d .receive) (length q) ≡ true
+  prepared = inbox-ready d q t (box (d .shared) b o) h
+
   -- a raise answers what its event meets
   raise-is : (code tick : ℕ) (m : Message) → TypedDevice (raise code tick m) → Doing (onDevice (raise code tick m))
-  unfolding outcome raised step does
+  unfolding outcome raised Queue.raised raiseRefusal step does
   raise-is code tick m ty =
-      rw (possible, long)
-      (agree-ways (eqb (frameRefusal code m) 0) out
-      (λ z.
+      rw (sends, prepared)
+      (by-test (eqb (frameRefusal code m) 0)
+      (λ z. rw z (
       let s = event-sound tick m (ty .1) (ty .2 .eight) code (ty .0) (eqb-true (frameRefusal code m) 0 z) in
       let e = arrival-is (d .receive) q b (h .inbox) (d .shared) i (eventOf code tick m) s in (
         record { number = e .0; value = refl; bytes = refl; line = refl },
         record { possible = h .possible; shared = refl; inbox = e .1; outbox = h .outbox },
-      ))
-      (λ z. (told (says (frameRefusal code m)) d q t out, h)))
+      )))
+      (λ z. rw z (told (says (frameRefusal code m)) d q t out, h)))
 
   -- a change of the shared settings
   change-is : (s : Shared) (tick : ℕ) → Word tick → Agrees (changed s tick d l) out (changes s tick i (box (d .shared) b o))

@@ -1,6 +1,6 @@
 -- Demand 1 over all calls at once, for any device and any lent bytes whatever.
 use mathlib.Core.Path.{_≡_, refl, sym, ap, _∙_}
-use mathlib.Core.Bool.{Bool, true, false, not, _&&_, _||_}
+use mathlib.Core.Bool.{Bool, true, false, not, _&&_}
 use mathlib.Core.List.{List, [], _∷_}
 use Prim.Native.Nat.{ℕ, _≤_}
 use lib.ListN.{length, replicate}
@@ -8,46 +8,53 @@ use lib.Dec.{ltb, eqb}
 use borrow.Author.Tests.{eqb-true, eq-eqb}
 use Rattle.common.specs.Choice.{pick}
 use Rattle.common.specs.Numbers.{among}
-use Rattle.common.proofs.Among.{among-last}
 use Rattle.common.proofs.Choices.{pick-is}
 use Rattle.common.proofs.Bools.{apart, denied}
 use Rattle.ids.specs.Ids.{isFormat}
+use Rattle.ids.specs.Filters.{letThrough}
 use Rattle.ids.specs.EventMask.{maskLets, isMask}
 use Rattle.ids.specs.Frames.{headerRefusal}
 use Rattle.records.specs.declared.Message.{Message}
-use Rattle.records.specs.Events.{holdsFrame, codeOf, isEvent}
+use Rattle.records.specs.Events.{eventSize, codeOf, eventIn, isEvent}
 use Rattle.records.specs.Messages.{messageSize, isMessage, noMessage}
 use Rattle.records.specs.declared.Event.{Event}
-use Rattle.queue.specs.Queue.{goodReceive, queueFits, slotAt, usable, Raising, raises, queued, unfiltered, raising, notRead, reading, lookNumber, looked}
-use Rattle.records.specs.Raised.{filtered, eventOf, frameRefusal}
-use Rattle.queue.specs.declared.Receive.{Receive}
-use Rattle.queue.specs.declared.ReadOut.{ReadOut}
-use Rattle.outbox.specs.Channel.{sendFits, oldest}
+use Rattle.inbox.specs.Channel.{goodReceive, queueFits, slotAt, usable, afterRead, withFilter, withEvents}
+use Rattle.inbox.specs.Refusals.{ready, raiseRefusal, oldestRefusal, recordRefusal, textRefusal}
+use Rattle.inbox.specs.Refusals.{lookRefusal, filterRefusal, maskRefusal, throughRefusal}
+use Rattle.inbox.specs.Refusals as Judged
+use Rattle.inbox.specs.Calls.{Raising, raises, queued, unfiltered, meets, looked}
+use Rattle.inbox.specs.Calls as Queue
+use Rattle.inbox.proofs.Laws.{raise-number}
+use Rattle.records.specs.Raised.{filtered, eventOf}
+use Rattle.inbox.specs.declared.Receive.{Receive}
+use Rattle.outbox.specs.Channel.{goodSend, sendFits, oldest}
 use Rattle.outbox.specs.Refusals.{possible, putRefusal, waitRefusal, takeRefusal, doneRefusal, abortRefusal}
 use Rattle.outbox.specs.Refusals as Refusals
 use Rattle.outbox.specs.Calls as Wire
 use Rattle.message_text.specs.Printing.{messageRefusal, messageRecordRefusal}
 use Rattle.message_text.specs.Numbers.{usedOf}
 use Rattle.message_text.proofs.Cases.{read-is}
-use Rattle.event_text.specs.Lines.{eventRecordRefusal}
+use Rattle.event_text.specs.Lines.{eventLine, eventRecordRefusal}
 use Rattle.recorder.specs.State.{good, fresh, noDevice, withShared, withReceive}
 use Rattle.settings.specs.Ranges.{goodShared, formatOf}
 use Rattle.settings.specs.Binary.{binaryRefusal}
-use Rattle.recorder.specs.Outcomes.{Lent, Outcome, ends, refuses, queueReady, noted, met, withQueue}
+use Rattle.recorder.specs.Outcomes.{Lent, Outcome, ends, refuses, queueReady, noted, withQueue}
 use Rattle.common.specs.Refusals.{isRefusal}
 use Rattle.recorder.specs.Receiving.{opened, changed, filterSet, eventMaskSet, raised, recordRead, textRead, lookSaid, through}
+use Rattle.recorder.specs.Receiving as Received
 use Rattle.recorder.specs.Sending.{lifted, carried, carrying, sent, textSent, taken, finished, aborted}
 use Rattle.recorder.specs.Printing.{linePrinted, messageRecordPrinted, eventRecordPrinted, messagePrinted}
 use Rattle.recorder.specs.declared.Device.{Device}
 use Rattle.settings.specs.declared.Shared.{Shared}
 use Rattle.settings.specs.declared.Settings.{Settings}
 use Rattle.recorder.proofs.Ready.{align-in}
+use Rattle.recorder.proofs.ReceiveWays.{good-is, not-good}
 use Rattle.model.specs.Inbox.{readRecord, readText, look, setFilter, setEventMask, identifiersThrough}
 use Rattle.model.specs.Outbox.{send, sendText, take, done, abort}
 use Rattle.model.specs.Box.{raise, setMode, setFormat, printMessageRecord, printEventRecord, printMessage}
 use Rattle.model.specs.Box.{Call, onDevice, onReceive, onSend, onAlign}
 use Rattle.model.specs.Listed.{listedDevice, listedReceive, listedSend, listedPrint, listed, besideSend, beside}
-use Rattle.model.proofs.Numbers.{header-number, binary-number, Other, room-align, each-is}
+use Rattle.model.proofs.Numbers.{header-number, binary-number, Other, room-align, each, each-is}
 use Rattle.promises.specs.Calls.{receiveOutcome, outcome, Harmless, CallHarmless}
 
 -- a choice has what both its arms have
@@ -88,88 +95,91 @@ module _ (ns : List ℕ) (d : Device) (l : Lent) where
 
 -- ---- what an event that is raised meets
 
+abbrev raiseNumbers : List ℕ
+raiseNumbers = 2 ∷ 13 ∷ 8 ∷ 9 ∷ 10 ∷ 100 ∷ 101 ∷ 102 ∷ 103 ∷ []
+
 -- listed, and a refusal leaves channel and table
 record Met (r : Receive) (t : List ℕ) (g : Raising) : Type 0 where
-  number-in : among (g .number) (2 ∷ 100 ∷ 101 ∷ 102 ∷ 103 ∷ []) ≡ true
+  number-in : among (g .number) raiseNumbers ≡ true
   receive-kept : isRefusal (g .number) ≡ true → g .receive ≡ r
   table-kept : isRefusal (g .number) ≡ true → g .table ≡ t
 
-raising-met : (mode align : ℕ) (r : Receive) (e : Event) (t : List ℕ) → Met r t (raising mode align r e t)
-unfolding raising unfiltered queued isRefusal
-raising-met mode align r e t =
-    both (Met r t) (usable r t) _ _
-    (both (Met r t) (filtered mode align (r .filter) e) _ _ (kept 101 refl)
+raised-met : (h : Shared) (r : Receive) (code tick : ℕ) (m : Message) (t : List ℕ) → Met r t (Queue.raised h r code tick m t)
+unfolding Queue.raised meets unfiltered queued isRefusal
+raised-met h r code tick m t =
+    let e = eventOf code tick m in
+    pick-is (Met r t) (eqb (raiseRefusal h r (length t) code m) 0)
+    (λ z. both (Met r t) (filtered (h .mode) (h .align) (r .filter) e) _ _ (kept 101 refl)
     (both (Met r t) (maskLets (r .events) (codeOf (e .kind))) _ _
     (both (Met r t) (ltb (r .ring .count) (r .ring .capacity)) _ _
     (record { number-in = refl; receive-kept = λ x. absurd (apart (sym x)); table-kept = λ x. absurd (apart (sym x)) })
     (record { number-in = refl; receive-kept = λ x. absurd (apart (sym x)); table-kept = λ x. absurd (apart (sym x)) }))
     (kept 102 refl)))
-    (kept 2 refl)
+    (λ z. kept _ (raise-number h r code tick m t (Other raiseNumbers) (λ x. absurd (apart x)) (λ x. refl) (λ x. refl) (λ x. refl)
+    (λ x. refl) (λ x. refl) z))
   where
-    kept : (n : ℕ) → among n (2 ∷ 100 ∷ 101 ∷ 102 ∷ 103 ∷ []) ≡ true → Met r t (raises n r t)
+    kept : (n : ℕ) → among n raiseNumbers ≡ true → Met r t (raises n r t)
     kept n h = record { number-in = h; receive-kept = λ x. refl; table-kept = λ x. refl }
 
 -- ---- the calls
 
 module _ (d : Device) (l : Lent) where
-  abbrev raiseNumbers : List ℕ
-  raiseNumbers = 2 ∷ 13 ∷ 8 ∷ 9 ∷ 10 ∷ 100 ∷ 101 ∷ 102 ∷ 103 ∷ []
-
   raise-fine : (code tick : ℕ) (m : Message) → H (listedDevice (raise code tick m)) d l (raised code tick m d l)
   unfolding raised
   raise-fine code tick m =
-      both (H raiseNumbers d l) (queueReady d l) _ _ (by-number raiseNumbers d l (frameRefusal code m) _ (frame-in code m) (λ z. arrives (eventOf code tick m))) (refused raiseNumbers d l 2 refl)
-    where
-      frame-in : (code : ℕ) (m : Message) → Other raiseNumbers (frameRefusal code m)
-      frame-in code m =
-          both (Other raiseNumbers) (holdsFrame code) (headerRefusal (m .header)) 0
-          (header-number (Other raiseNumbers) (m .header) (λ z. absurd (apart z)) (λ z. refl) (λ z. refl) (λ z. refl) (λ z. refl))
-          (λ z. absurd (apart z))
+      let g = raised-met (d .shared) (d .receive) code tick m (l .queue) in
+      both (H raiseNumbers d l) (goodSend (d .send)) _ _
+      (record {
+        is-listed = g .number-in;
+        device-kept = λ x. ap (λ (r : Receive). withReceive d r) (g .receive-kept x);
+        bytes-kept = λ x. ap (λ (t : List ℕ). withQueue l t) (g .table-kept x);
+        zero-bytes = λ x. refl;
+        value-is = λ x. refl;
+      })
+      (refused raiseNumbers d l 2 refl)
 
-      arrives : (e : Event) → H raiseNumbers d l (ends (met e d l .number) 0 [] (withReceive d (met e d l .receive)) (withQueue l (met e d l .table)))
-      arrives e =
-          let g = raising-met (d .shared .mode) (d .shared .align) (d .receive) e (l .queue) in
-          record {
-            is-listed = wider (met e d l .number) (g .number-in);
-            device-kept = λ x. ap (λ (r : Receive). withReceive d r) (g .receive-kept x);
-            bytes-kept = λ x. ap (λ (t : List ℕ). withQueue l t) (g .table-kept x);
-            zero-bytes = λ x. refl;
-            value-is = λ x. refl;
-          }
-        where
-          wider : (n : ℕ) → among n (2 ∷ 100 ∷ 101 ∷ 102 ∷ 103 ∷ []) ≡ true → among n raiseNumbers ≡ true
-          wider n h = by (eqb n 2) (among n (100 ∷ 101 ∷ 102 ∷ 103 ∷ [])) h (among-last n (13 ∷ 8 ∷ 9 ∷ 10 ∷ []) (100 ∷ 101 ∷ 102 ∷ 103 ∷ []))
-            where
-              by : {c : Bool} (a b : Bool) → (a || b) ≡ true → (b ≡ true → c ≡ true) → (a || c) ≡ true
-              by true b h f = refl
-              by false b h f = f h
+  -- what holds of a receive call's effect and of its refusal holds of the call
+  by-received : (ns : List ℕ) (n : ℕ) (b : List ℕ) (o : Queue.Outcome) → Other ns n → H ns d l (Received.lifted o d l)
+      → (among n ns ≡ true → H ns d l (Received.lifted (Queue.refused n b (d .receive)) d l))
+      → H ns d l (Received.lifted (Queue.settled n b (d .receive) o) d l)
+  by-received ns n b o h p r =
+      pick-is (λ (w : Queue.Outcome). H ns d l (Received.lifted w d l)) (eqb n 0) (λ e. p) (λ e. r (h e))
+
+  -- and likewise on a device: 2 where the send channel is not possible
+  receive-fine : (ns : List ℕ) (n : ℕ) (o : Queue.Outcome) → among 2 ns ≡ true → Other ns n → H ns d l (Received.lifted o d l)
+      → H ns d l (Received.received (Queue.settled n [] (d .receive) o) d l)
+  receive-fine ns n o two h p =
+      both (H ns d l) (goodSend (d .send)) _ _ (by-received ns n [] o h p (λ e. refused ns d l n e)) (refused ns d l 2 two)
+
+  -- the oldest event's number
+  oldest-number : (ns : List ℕ) → among 4 ns ≡ true → among 14 ns ≡ true → Other ns (oldestRefusal (d .receive) (l .queue))
+  unfolding oldestRefusal
+  oldest-number ns four fourteen =
+      both (Other ns) (eqb (d .receive .ring .count) 0) 4 _ (λ e. four)
+      (both (Other ns) (isEvent (slotAt (d .receive) (l .queue) 0)) 0 14 (λ e. absurd (apart e)) (λ e. fourteen))
 
   text-fine : H (listedReceive readText) d l (textRead d l)
-  unfolding textRead
+  unfolding textRead Queue.textRead textRefusal
   text-fine =
       let ns : List ℕ = 2 ∷ 3 ∷ 4 ∷ 14 ∷ 0 ∷ [] in
-      both (H ns d l) (queueReady d l) _ _
-      (both (H ns d l) (ltb (length (l .out)) 80) _ _ (refused ns d l 3 refl)
-      (both (H ns d l) (eqb (d .receive .ring .count) 0) _ _ (refused ns d l 4 refl)
-      (both (H ns d l) (isEvent (slotAt (d .receive) (l .queue) 0)) _ _ (succeeds ns d l _ _ _ _ refl) (refused ns d l 14 refl))))
-      (refused ns d l 2 refl)
-
-  -- a read that is listed, and whose refusal leaves the channel and stands beside zeros
-  abbrev Read : ReadOut → Type 0
-  Read g = H (2 ∷ 4 ∷ 14 ∷ 0 ∷ []) d l (ends (g .number) 0 (g .bytes) (withReceive d (g .receive)) l)
-
-  not-read : (n : ℕ) → among n (2 ∷ 4 ∷ 14 ∷ 0 ∷ []) ≡ true → Read (notRead n (d .receive))
-  not-read n h = record { is-listed = h; device-kept = λ x. refl; bytes-kept = λ x. refl; zero-bytes = λ x. refl; value-is = λ x. refl }
+      let line = eventLine (d .shared .align) (eventIn (slotAt (d .receive) (l .queue) 0)) in
+      let own = oldestRefusal (d .receive) (l .queue) in
+      receive-fine ns (textRefusal (d .shared) (d .receive) (l .queue) (length (l .out))) (Queue.prints (d .receive) line) refl
+      (both (Other ns) (ready (d .shared) (d .receive) (length (l .queue))) (pick (ltb (length (l .out)) 80) 3 own) 2
+      (both (Other ns) (ltb (length (l .out)) 80) 3 own (λ e. refl) (oldest-number ns refl refl)) (λ e. refl))
+      (succeeds ns d l _ _ _ _ refl)
 
   record-fine : H (listedReceive readRecord) d l (recordRead d l)
-  unfolding recordRead reading
+  unfolding recordRead Queue.recordRead recordRefusal
   record-fine =
       let ns : List ℕ = 2 ∷ 4 ∷ 14 ∷ 0 ∷ [] in
-      both (H ns d l) (queueReady d l) _ _
-      (both Read (usable (d .receive) (l .queue)) _ _
-      (both Read (eqb (d .receive .ring .count) 0) _ _ (not-read 4 refl)
-      (both Read (isEvent (slotAt (d .receive) (l .queue) 0)) _ _ (succeeds ns d l 0 _ _ _ refl) (not-read 14 refl)))
-      (not-read 2 refl))
+      both (H ns d l) (goodSend (d .send)) _ _
+      (by-received ns (recordRefusal (d .shared) (d .receive) (l .queue)) (replicate eventSize 0)
+      (Queue.ends 0 0 (slotAt (d .receive) (l .queue) 0) [] (afterRead (d .receive)))
+      (both (Other ns) (ready (d .shared) (d .receive) (length (l .queue))) (oldestRefusal (d .receive) (l .queue)) 2
+      (oldest-number ns refl refl) (λ e. refl))
+      (succeeds ns d l _ _ _ _ refl)
+      (λ e. record { is-listed = e; device-kept = λ x. refl; bytes-kept = λ x. refl; zero-bytes = λ x. refl; value-is = λ x. refl }))
       (record { is-listed = refl; device-kept = λ x. refl; bytes-kept = λ x. refl; zero-bytes = λ x. refl; value-is = λ x. refl })
 
   changed-fine : (s : Shared) (tick : ℕ) → H (2 ∷ 1 ∷ 0 ∷ []) d l (changed s tick d l)
@@ -181,20 +191,31 @@ module _ (d : Device) (l : Lent) where
       (refused ns d l 2 refl)
 
   filter-fine : (code mask : ℕ) → H (listedReceive (setFilter code mask)) d l (filterSet code mask d l)
-  unfolding filterSet
-  filter-fine code mask = both (H (2 ∷ 0 ∷ []) d l) (good d) _ _ (succeeds (2 ∷ 0 ∷ []) d l _ _ _ _ refl) (refused (2 ∷ 0 ∷ []) d l 2 refl)
+  unfolding filterSet Queue.filterSet filterRefusal
+  filter-fine code mask =
+      let ns : List ℕ = 2 ∷ 0 ∷ [] in
+      receive-fine ns (filterRefusal (d .shared) (d .receive)) (Queue.ends 0 0 [] [] (withFilter (d .receive) code mask)) refl
+      (both (Other ns) (Judged.possible (d .shared) (d .receive)) 0 2 (λ e. refl) (λ e. refl))
+      (succeeds ns d l _ _ _ _ refl)
 
   mask-fine : (events : ℕ) → H (listedReceive (setEventMask events)) d l (eventMaskSet events d l)
-  unfolding eventMaskSet
+  unfolding eventMaskSet Queue.eventMaskSet maskRefusal
   mask-fine events =
       let ns : List ℕ = 2 ∷ 1 ∷ 0 ∷ [] in
-      both (H ns d l) (good d) _ _ (both (H ns d l) (isMask events) _ _ (succeeds ns d l _ _ _ _ refl) (refused ns d l 1 refl)) (refused ns d l 2 refl)
+      receive-fine ns (maskRefusal (d .shared) (d .receive) events) (Queue.ends 0 0 [] [] (withEvents (d .receive) events)) refl
+      (both (Other ns) (Judged.possible (d .shared) (d .receive)) (pick (isMask events) 0 1) 2
+      (both (Other ns) (isMask events) 0 1 (λ e. refl) (λ e. refl)) (λ e. refl))
+      (succeeds ns d l _ _ _ _ refl)
 
   through-fine : (format : ℕ) → H (listedReceive (identifiersThrough format)) d l (through format d l)
-  unfolding through
+  unfolding through Queue.through throughRefusal
   through-fine format =
       let ns : List ℕ = 2 ∷ 13 ∷ 0 ∷ [] in
-      both (H ns d l) (good d) _ _ (both (H ns d l) (isFormat format) _ _ (succeeds ns d l _ _ _ _ refl) (refused ns d l 13 refl)) (refused ns d l 2 refl)
+      let count = letThrough (d .shared .align) (d .receive .filter) format in
+      receive-fine ns (throughRefusal (d .shared) (d .receive) format) (Queue.ends 0 count [] [] (d .receive)) refl
+      (both (Other ns) (Judged.possible (d .shared) (d .receive)) (pick (isFormat format) 0 13) 2
+      (both (Other ns) (isFormat format) 0 13 (λ e. refl) (λ e. refl)) (λ e. refl))
+      (succeeds ns d l _ _ _ _ refl)
 
   -- what holds of a call's effect and of its refusal holds of the call
   by-settled : (P : Wire.Outcome → Type 0) (n v : ℕ) (b : List ℕ) (o : Wire.Outcome) → P o
@@ -202,8 +223,7 @@ module _ (d : Device) (l : Lent) where
   by-settled P n v b o p r = pick-is P (eqb n 0) (λ e. p) r
 
   -- a message's number: 2, its own, 5 or 0
-  put-number : (P : ℕ → Type 0) (own : ℕ) → P 2 → P own → P 5 → P 0
-      → P (putRefusal (d .shared) (d .send) (length (l .send)) own)
+  put-number : (P : ℕ → Type 0) (own : ℕ) → P 2 → P own → P 5 → P 0 → P (putRefusal (d .shared) (d .send) (length (l .send)) own)
   unfolding putRefusal
   put-number P own two o five zero =
       both P (Refusals.usable (d .shared) (d .send) (length (l .send))) _ 2
@@ -214,13 +234,11 @@ module _ (d : Device) (l : Lent) where
   send-fine m =
       let ns : List ℕ = 2 ∷ 13 ∷ 8 ∷ 9 ∷ 10 ∷ 5 ∷ 0 ∷ [] in
       let own = binaryRefusal (d .shared) m in
-      let o : Other ns own =
-      binary-number (Other ns) (d .shared) m (λ e. refl) (λ e. refl) (λ e. refl) (λ e. refl) (λ e. refl) in
-      let n = putRefusal (d .shared) (d .send) (length (l .send)) own in
-      let listed : Other ns n = put-number (Other ns) own (λ e. refl) o (λ e. refl) (λ e. refl) in
+      let listed : Other ns (putRefusal (d .shared) (d .send) (length (l .send)) own) =
+      put-number (Other ns) own (λ e. refl) (binary-number (Other ns) (d .shared) m (λ e. refl) (λ e. refl) (λ e. refl) (λ e. refl) (λ e. refl))
+      (λ e. refl) (λ e. refl) in
       both (H ns d l) (goodReceive (d .receive)) _ _
-      (by-settled (λ w. H ns d l (lifted w d l)) n 0 [] _ (succeeds ns d l _ _ _ _ refl)
-      (λ e. refused ns d l n (listed e)))
+      (by-settled (λ w. H ns d l (lifted w d l)) (putRefusal (d .shared) (d .send) (length (l .send)) own) 0 [] _ (succeeds ns d l _ _ _ _ refl) (λ e. refused ns d l _ (listed e)))
       (refused ns d l 2 refl)
 
   -- a refusal that answers zero bytes
@@ -234,16 +252,15 @@ module _ (d : Device) (l : Lent) where
       both N (eqb (waitRefusal (d .shared) (d .send) (length (l .send))) 0) _ _
       (both N (isMessage (oldest (d .send) (l .send))) 0 14 (λ e. refl) (λ e. refl))
       (both N (Refusals.usable (d .shared) (d .send) (length (l .send))) _ 2
-      (both N (d .send .held) 5 _ (λ e. refl) (both N (eqb (d .send .ring .count) 0) 4 0 (λ e. refl) (λ e. refl)))
-      (λ e. refl))
+      (both N (d .send .held) 5 _ (λ e. refl) (both N (eqb (d .send .ring .count) 0) 4 0 (λ e. refl) (λ e. refl))) (λ e. refl))
 
   take-fine : (tick : ℕ) → H (listedSend (take tick)) d l (taken tick d l)
   unfolding taken Wire.taken carried
   take-fine tick =
       let ns : List ℕ = 2 ∷ 5 ∷ 4 ∷ 14 ∷ 0 ∷ [] in
       both (H ns d l) (usable (d .receive) (l .queue)) _ _
-      (by-settled (λ w. H ns d l (carrying w d l)) (takeRefusal (d .shared) (d .send) (l .send)) 0 _ _
-      (succeeds ns d l _ _ _ _ refl) (λ e. refused-bytes ns _ (take-number e)))
+      (by-settled (λ w. H ns d l (carrying w d l)) (takeRefusal (d .shared) (d .send) (l .send)) 0 _ _ (succeeds ns d l _ _ _ _ refl)
+      (λ e. refused-bytes ns _ (take-number e)))
       (refused-bytes ns 2 refl)
 
   done-fine : (tick : ℕ) → H (listedSend (done tick)) d l (finished tick d l)
@@ -251,11 +268,9 @@ module _ (d : Device) (l : Lent) where
   done-fine tick =
       let ns : List ℕ = 2 ∷ 4 ∷ 0 ∷ [] in
       let listed : Other ns (doneRefusal (d .shared) (d .send)) =
-      both (Other ns) (possible (d .shared) (d .send)) _ 2
-      (both (Other ns) (d .send .held) 0 4 (λ e. refl) (λ e. refl)) (λ e. refl) in
+      both (Other ns) (possible (d .shared) (d .send)) _ 2 (both (Other ns) (d .send .held) 0 4 (λ e. refl) (λ e. refl)) (λ e. refl) in
       both (H ns d l) (usable (d .receive) (l .queue)) _ _
-      (by-settled (λ w. H ns d l (carrying w d l)) (doneRefusal (d .shared) (d .send)) 0 [] _
-      (succeeds ns d l _ _ _ _ refl) (λ e. refused ns d l _ (listed e)))
+      (by-settled (λ w. H ns d l (carrying w d l)) (doneRefusal (d .shared) (d .send)) 0 [] _ (succeeds ns d l _ _ _ _ refl) (λ e. refused ns d l _ (listed e)))
       (refused ns d l 2 refl)
 
   abort-fine : (tick : ℕ) → H (listedSend (abort tick)) d l (aborted tick d l)
@@ -265,8 +280,7 @@ module _ (d : Device) (l : Lent) where
       let listed : Other ns (abortRefusal (d .shared) (d .send)) =
       both (Other ns) (possible (d .shared) (d .send)) 0 2 (λ e. refl) (λ e. refl) in
       both (H ns d l) (usable (d .receive) (l .queue)) _ _
-      (by-settled (λ w. H ns d l (carrying w d l)) (abortRefusal (d .shared) (d .send)) 0 [] _
-      (succeeds ns d l _ _ _ _ refl) (λ e. refused ns d l _ (listed e)))
+      (by-settled (λ w. H ns d l (carrying w d l)) (abortRefusal (d .shared) (d .send)) 0 [] _ (succeeds ns d l _ _ _ _ refl) (λ e. refused ns d l _ (listed e)))
       (refused ns d l 2 refl)
 
   -- a line is printed, or its first refusal answered; the Align of a good device is in range
@@ -299,14 +313,19 @@ module _ (d : Device) (l : Lent) where
 
   -- a look that is refused hands back an empty part
   look-fine : (p : ℕ) → H (listedReceive (look p)) d l (receiveOutcome (look p) d l)
-  unfolding lookSaid lookNumber looked isRefusal
-  look-fine p = by (good d) (usable (d .receive) (l .queue)) (ltb p (d .receive .ring .count)) refl refl refl
+  unfolding lookSaid lookRefusal ready looked isRefusal
+  look-fine p =
+      by (goodSend (d .send)) (Judged.possible (d .shared) (d .receive)) (queueFits (d .receive) (length (l .queue)))
+      (ltb p (d .receive .ring .count)) refl refl refl refl
     where
-      by : (a b c : Bool) → good d ≡ a → usable (d .receive) (l .queue) ≡ b → ltb p (d .receive .ring .count) ≡ c → H (2 ∷ 4 ∷ 0 ∷ []) d l (receiveOutcome (look p) d l)
-      by true true true x y z = rw (x, y, z) (succeeds (2 ∷ 4 ∷ 0 ∷ []) d l _ _ _ _ refl)
-      by true true false x y z = rw (x, y, z) (refused (2 ∷ 4 ∷ 0 ∷ []) d l 4 refl)
-      by true false c x y z = rw (x, y) (refused (2 ∷ 4 ∷ 0 ∷ []) d l 2 refl)
-      by false b c x y z = rw x (refused (2 ∷ 4 ∷ 0 ∷ []) d l 2 refl)
+      by : (a b c e : Bool) → goodSend (d .send) ≡ a → Judged.possible (d .shared) (d .receive) ≡ b
+          → queueFits (d .receive) (length (l .queue)) ≡ c → ltb p (d .receive .ring .count) ≡ e
+          → H (2 ∷ 4 ∷ 0 ∷ []) d l (receiveOutcome (look p) d l)
+      by true true true true x y z w = rw (x, good-is d x, y, z, w) (succeeds (2 ∷ 4 ∷ 0 ∷ []) d l _ _ _ _ refl)
+      by true true true false x y z w = rw (x, good-is d x, y, z, w) (refused (2 ∷ 4 ∷ 0 ∷ []) d l 4 refl)
+      by true true false e x y z w = rw (x, good-is d x, y, z) (refused (2 ∷ 4 ∷ 0 ∷ []) d l 2 refl)
+      by true false c e x y z w = rw (x, good-is d x, y) (refused (2 ∷ 4 ∷ 0 ∷ []) d l 2 refl)
+      by false b c e x y z w = rw (x, not-good d x) (refused (2 ∷ 4 ∷ 0 ∷ []) d l 2 refl)
 
   -- a text send: a refused text answers the bytes used, but 0 on 2, 5 and 6
   module _ (text : List ℕ) where
@@ -337,15 +356,12 @@ module _ (d : Device) (l : Lent) where
 
     -- what a text says, with its own refusal and the bytes used
     abbrev Told : ℕ → ℕ → Message → ℕ → Type 0
-    Told own used m n =
-        let put : Wire.Outcome = Wire.puts (d .send) m used (l .send) in
-        T (lifted (Wire.settled n (pick (eqb n own) used 0) [] (d .send) (l .send) put) d l)
+    Told own used m n = T (lifted (Wire.settled n (pick (eqb n own) used 0) [] (d .send) (l .send) (Wire.puts (d .send) m used (l .send))) d l)
 
     read-fine : (own used : ℕ) (m : Message) → eqb 2 own ≡ false → eqb 5 own ≡ false → Told own used m own
         → Told own used m (putRefusal (d .shared) (d .send) (length (l .send)) own)
     read-fine own used m two five o =
-        put-number (Told own used m) own (rw two (refused-text 2 0 refl refl)) o (rw five (refused-text 5 0 refl refl))
-        (taken-text used _ _)
+        put-number (Told own used m) own (rw two (refused-text 2 0 refl refl)) o (rw five (refused-text 5 0 refl refl)) (taken-text used _ _)
 
     -- a refusal of a text with an end is none of 2, 5 and 6
     other : (n : ℕ) → among n (7 ∷ 8 ∷ 9 ∷ 10 ∷ 11 ∷ 12 ∷ []) ≡ true → T (ends n (usedOf text) [] d l)
@@ -355,23 +371,19 @@ module _ (d : Device) (l : Lent) where
         let none-of : among n (2 ∷ 5 ∷ 6 ∷ []) ≡ false = denied refl out in
         refused-text n (usedOf text) (each-is (λ k. among k textNumbers) n ns refl h) (rw none-of)
 
-    -- a text with an end that is refused by such a number
-    own : (n : ℕ) (m : Message) → among n (7 ∷ 8 ∷ 9 ∷ 10 ∷ 11 ∷ 12 ∷ []) ≡ true
-        → Told n (usedOf text) m (putRefusal (d .shared) (d .send) (length (l .send)) n)
+    own : (n : ℕ) (m : Message) → among n (7 ∷ 8 ∷ 9 ∷ 10 ∷ 11 ∷ 12 ∷ []) ≡ true → Told n (usedOf text) m (putRefusal (d .shared) (d .send) (length (l .send)) n)
     own n m h =
-        let ns : List ℕ = 7 ∷ 8 ∷ 9 ∷ 10 ∷ 11 ∷ 12 ∷ [] in
-        let two : eqb 2 n ≡ false = denied refl (each-is (λ i. not (eqb 2 i)) n ns refl h) in
-        let five : eqb 5 n ≡ false = denied refl (each-is (λ i. not (eqb 5 i)) n ns refl h) in
-        let zero : eqb n 0 ≡ false = denied refl (each-is (λ i. not (eqb i 0)) n ns refl h) in
-        read-fine n (usedOf text) m two five (rw (zero, eq-eqb n n refl) (other n h))
+        let not-in : (k : ℕ) → _≡_ {A = Bool} (each (λ i. not (eqb k i)) (7 ∷ 8 ∷ 9 ∷ 10 ∷ 11 ∷ 12 ∷ [])) true → eqb k n ≡ false =
+        λ k e. denied refl (each-is (λ i. not (eqb k i)) n (7 ∷ 8 ∷ 9 ∷ 10 ∷ 11 ∷ 12 ∷ []) e h) in
+        let z : eqb n 0 ≡ false = denied refl (each-is (λ i. not (eqb i 0)) n (7 ∷ 8 ∷ 9 ∷ 10 ∷ 11 ∷ 12 ∷ []) refl h) in
+        read-fine n (usedOf text) m (not-in 2 refl) (not-in 5 refl) (rw (z, eq-eqb n n refl) (other n h))
 
     send-text-fine : T (textSent text d l)
     unfolding textSent Wire.textSent
     send-text-fine =
         both T (goodReceive (d .receive)) _ _
-        (read-is (λ s. T (lifted (Wire.readSent (d .shared) (d .send) (Wire.readAs s) (l .send)) d l))
-        (d .shared .align) (formatOf (d .shared) (d .shared .format)) text
-        (read-fine 6 0 noMessage refl refl (refused-text 6 0 refl refl))
+        (read-is (λ s. T (lifted (Wire.readSent (d .shared) (d .send) (Wire.readAs s) (l .send)) d l)) (d .shared .align)
+        (formatOf (d .shared) (d .shared .format)) text (read-fine 6 0 noMessage refl refl (refused-text 6 0 refl refl))
         (λ n h. own n noMessage h) (λ f. read-fine 0 _ _ refl refl (taken-text _ _ _)))
         (refused-text 2 0 refl refl)
 

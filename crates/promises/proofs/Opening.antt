@@ -13,7 +13,7 @@ use Rattle.ids.specs.EventMask.{isMask}
 use Rattle.settings.specs.Ranges.{goodShared}
 use Rattle.settings.specs.TxMode.{goodTx}
 use Rattle.settings.specs.declared.Settings.{Settings}
-use Rattle.queue.specs.Queue.{queueLimit, goodReceive, queueFits}
+use Rattle.inbox.specs.Channel.{queueLimit, goodReceive, queueFits}
 use Rattle.outbox.specs.Channel.{sendLimit, goodSend, sendFits}
 use Rattle.recorder.specs.State.{good, fresh, noDevice}
 use Rattle.recorder.specs.Outcomes.{Lent, ends, refuses}

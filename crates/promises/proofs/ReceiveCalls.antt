@@ -2,9 +2,9 @@
 use Prim.Native.Nat.{ℕ, _+_, _%_}
 use mathlib.Core.Path.{_≡_, refl, ap, _∙_}
 use mathlib.Core.Bool.{Bool, true, false}
-use mathlib.Core.List.{List, [], _∷_, _++_}
+use mathlib.Core.List.{List, [], _∷_}
 use native.Mathlib.Omega.{arith}
-use lib.ListN.{length, drop}
+use lib.ListN.{length, replicate}
 use lib.Dec.{ltb, leb, eqb}
 use borrow.Author.Tests.{eq-eqb, ne-eqb}
 use Rattle.common.specs.Choice.{pick}
@@ -17,11 +17,17 @@ use Rattle.ids.specs.EventMask.{isMask}
 use Rattle.records.specs.Events.{eventSize, eventBytes, isEvent, eventIn}
 use Rattle.records.specs.declared.Event.{Event}
 use Rattle.event_text.specs.Lines.{eventRoom, eventLine}
-use Rattle.queue.specs.Queue.{queueLimit, queueFits, usable, slotAt, afterRead, notRead, reading, lookNumber, looked}
-use Rattle.queue.specs.declared.Receive.{Receive}
+use Rattle.inbox.specs.Channel.{queueLimit, queueFits, slotAt, afterRead}
+use Rattle.inbox.specs.Refusals.{ready, oldestRefusal, recordRefusal, textRefusal}
+use Rattle.inbox.specs.Refusals.{lookRefusal, filterRefusal, maskRefusal, throughRefusal}
+use Rattle.inbox.specs.Refusals as Judged
+use Rattle.inbox.specs.Calls.{looked}
+use Rattle.inbox.specs.Calls as Queue
+use Rattle.inbox.specs.declared.Receive.{Receive}
 use Rattle.recorder.specs.State.{good, withReceive}
 use Rattle.recorder.specs.Outcomes.{Lent, lends, ends}
-use Rattle.recorder.specs.Receiving.{filterSet, eventMaskSet, recordRead, textRead, lookSaid, through}
+use Rattle.outbox.specs.Channel.{goodSend}
+use Rattle.recorder.specs.Receiving.{lifted, filterSet, eventMaskSet, recordRead, textRead, lookSaid, through}
 use Rattle.recorder.specs.declared.Device.{Device}
 use Rattle.model.specs.Said.{says, saysZeros, hands, prints}
 use Rattle.model.specs.Inbox.{Kept, Inbox, ReceiveCall, readRecord, readText, look, setFilter, setEventMask, identifiersThrough}
@@ -34,7 +40,7 @@ use Rattle.promises.specs.Calls.{outcome}
 use Rattle.promises.specs.Stands.{keptBytes, Receives, Stands}
 use Rattle.promises.proofs.Holding.{holds-count, holds-rest, look-at}
 use Rattle.promises.proofs.Sound.{event-is}
-use Rattle.promises.proofs.Agreeing.{receive-usable, device-possible, Agrees, told}
+use Rattle.promises.proofs.Agreeing.{send-possible, device-possible, inbox-possible, inbox-ready, Agrees, told}
 
 -- a step of the box that a receive call makes
 abbrev Taken : Device → Outbox → Received → Step
@@ -54,8 +60,14 @@ module _ (d : Device) (q t out : List ℕ) (i : ℕ) (b : Inbox) (o : Outbox) (h
   long : queueFits (d .receive) (length q) ≡ true
   long = h .inbox .events .long
 
-  ready : usable (d .receive) q ≡ true
-  ready = receive-usable (d .receive) q b (h .inbox)
+  sends : goodSend (d .send) ≡ true
+  sends = send-possible (d .send) t o (h .outbox)
+
+  able : Judged.possible (d .shared) (d .receive) ≡ true
+  able = inbox-possible d q t (box (d .shared) b o) h
+
+  prepared : ready (d .shared) (d .receive) (length q) ≡ true
+  prepared = inbox-ready d q t (box (d .shared) b o) h
 
   count-is : d .receive .ring .count ≡ length (b .queue)
   count-is = holds-count keptBytes eventSize queueLimit (d .receive .ring) q (b .queue) (h .inbox .events)
@@ -98,23 +110,24 @@ module _ (d : Device) (q t out : List ℕ) (i : ℕ) (b : Inbox) (o : Outbox) (h
       sound = (rw e at (h .inbox .sound)) .1;
     }
 
-  nothing-read : b .queue ≡ [] → reading (d .receive) q ≡ notRead 4 (d .receive)
-  unfolding reading
-  nothing-read e = rw (ready, none-is e)
+  -- the oldest event's refusal: 4 where there is none, else none
+  nothing-read : b .queue ≡ [] → oldestRefusal (d .receive) q ≡ 4
+  unfolding oldestRefusal
+  nothing-read e = rw (none-is e)
 
-  oldest-read : (k : Kept) (rest : List Kept) → b .queue ≡ k ∷ rest
-      → reading (d .receive) q ≡ record { number = 0; bytes = slotAt (d .receive) q 0; receive = afterRead (d .receive) }
-  unfolding reading
-  oldest-read k rest e = rw (ready, some-is k rest e, oldest-event k rest e)
+  oldest-read : (k : Kept) (rest : List Kept) → b .queue ≡ k ∷ rest → oldestRefusal (d .receive) q ≡ 0
+  unfolding oldestRefusal
+  oldest-read k rest e = rw (some-is k rest e, oldest-event k rest e)
 
   -- a read as its bytes
   record-read : Doing readRecord
-  unfolding outcome recordRead step receives
-  record-read = rw (possible, long) (by (b .queue) refl)
+  unfolding outcome recordRead Queue.recordRead recordRefusal step receives
+  record-read = rw (sends, prepared) (by (b .queue) refl)
     where
       by : (ks : List Kept) → b .queue ≡ ks
           → Agrees
-          (ends (reading (d .receive) q .number) 0 (reading (d .receive) q .bytes) (withReceive d (reading (d .receive) q .receive)) l) out
+          (lifted (Queue.settled (oldestRefusal (d .receive) q) (replicate eventSize 0) (d .receive)
+          (Queue.ends 0 0 (slotAt (d .receive) q 0) [] (afterRead (d .receive)))) d l) out
           (Taken d o (takesOldest (saysZeros eventSize 4) (λ (e : Event). hands (eventBytes e)) ks b))
       by [] e = rw (nothing-read e) (told (saysZeros eventSize 4) d q t out, h)
       by (k ∷ rest) e =
@@ -125,9 +138,9 @@ module _ (d : Device) (q t out : List ℕ) (i : ℕ) (b : Inbox) (o : Outbox) (h
 
   -- a read as text
   text-read : Doing readText
-  unfolding outcome textRead step receives
+  unfolding outcome textRead Queue.textRead textRefusal step receives
   text-read =
-      rw (possible, long)
+      rw (sends, prepared)
       (by-test (ltb (length out) eventRoom) (λ z. rw z (told (says 3) d q t out, h)) (λ z. rw z (by (b .queue) refl)))
     where
       line : List ℕ
@@ -135,26 +148,23 @@ module _ (d : Device) (q t out : List ℕ) (i : ℕ) (b : Inbox) (o : Outbox) (h
 
       by : (ks : List Kept) → b .queue ≡ ks
           → Agrees
-          (pick (eqb (d .receive .ring .count) 0) (ends 4 0 [] d l)
-          (pick (isEvent (slotAt (d .receive) q 0))
-          (ends 0 (length line) [] (withReceive d (afterRead (d .receive))) (lends q t (line ++ drop (length line) out)))
-          (ends 14 0 [] d l)))
+          (lifted (Queue.settled (oldestRefusal (d .receive) q) [] (d .receive) (Queue.prints (d .receive) line)) d l)
           out (Taken d o (takesOldest (says 4) (λ (e : Event). prints (eventLine (d .shared .align) e)) ks b))
-      by [] e = rw (none-is e) (told (says 4) d q t out, h)
+      by [] e = rw (nothing-read e) (told (says 4) d q t out, h)
       by (k ∷ rest) e =
-          rw (some-is k rest e, oldest-event k rest e, oldest-in k rest e) (told _ _ _ _ _, with-receive _ _ (after-read k rest e))
+          rw (oldest-read k rest e, oldest-in k rest e) (told _ _ _ _ _, with-receive _ _ (after-read k rest e))
 
   -- a look at position p
   look-is : (p : ℕ) → Doing (look p)
-  unfolding outcome lookSaid lookNumber looked slotOf step receives
+  unfolding outcome lookSaid lookRefusal looked slotOf step receives
   look-is p =
       let r = d .receive .ring in
-      rw (possible, ready, look-at eventSize q (r .capacity) (r .first) (r .count) (b .queue) p (h .inbox .events .slots))
+      rw (sends, possible, prepared, long, look-at eventSize q (r .capacity) (r .first) (r .count) (b .queue) p (h .inbox .events .slots))
       (by (ltb p (r .count)))
     where
       by : (c : Bool)
           → let part : List ℕ = slot eventSize q ((d .receive .ring .first + p) % d .receive .ring .capacity) in
-          Agrees (ends (pick c 0 4) 0 (pick (eqb (pick c 0 4) 0) part []) d l) out
+          Agrees (ends (pick c 0 4) 0 (pick c part []) d l) out
           (steps (pick c (hands part) (says 4)) (box (d .shared) b o))
       by true = (told _ _ _ _ _, h)
       by false = (told (says 4) d q t out, h)
@@ -163,10 +173,10 @@ module _ (d : Device) (q t out : List ℕ) (i : ℕ) (b : Inbox) (o : Outbox) (h
 
   -- a change of code and mask
   filter-set : (code mask : ℕ) → TypedReceive (setFilter code mask) → Doing (setFilter code mask)
-  unfolding outcome filterSet step receives
+  unfolding outcome filterSet Queue.filterSet filterRefusal step receives
   filter-set code mask ty =
       let r = h .inbox in
-      rw possible (
+      rw (sends, able) (
         told _ _ _ _ _,
         with-receive _ _ (record {
           settings = r .settings;
@@ -184,10 +194,10 @@ module _ (d : Device) (q t out : List ℕ) (i : ℕ) (b : Inbox) (o : Outbox) (h
 
   -- a change of the event mask
   mask-set : (mask : ℕ) → Doing (setEventMask mask)
-  unfolding outcome eventMaskSet step receives
+  unfolding outcome eventMaskSet Queue.eventMaskSet maskRefusal step receives
   mask-set mask =
       let r = h .inbox in
-      rw possible
+      rw (sends, able)
       (by-test (isMask mask)
       (λ z. rw z (
         told _ _ _ _ _,
@@ -208,9 +218,9 @@ module _ (d : Device) (q t out : List ℕ) (i : ℕ) (b : Inbox) (o : Outbox) (h
 
   -- how many identifiers the filter lets through
   through-is : (format : ℕ) → Doing (identifiersThrough format)
-  unfolding outcome through step receives
+  unfolding outcome through Queue.through throughRefusal step receives
   through-is format =
-      rw possible
+      rw (sends, able)
       (by-test (isFormat format)
       (λ z. rw z (record { number = refl; value = rw (h .inbox .filter); bytes = refl; line = refl }, h))
       (λ z. rw z (told (says 13) d q t out, h)))

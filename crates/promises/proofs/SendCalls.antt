@@ -22,8 +22,8 @@ use Rattle.message_text.proofs.Taken.{taken-good}
 use Rattle.settings.specs.Ranges.{formatOf}
 use Rattle.settings.specs.TxMode.{raisesAtTake, raisesAtDone}
 use Rattle.settings.specs.Binary.{binaryRefusal, sentMessage}
-use Rattle.queue.specs.Queue.{goodReceive}
-use Rattle.queue.specs.Queue as Queue
+use Rattle.inbox.specs.Channel.{goodReceive}
+use Rattle.inbox.specs.Channel as Queue
 use Rattle.outbox.specs.Channel.{sendLimit, oldest, afterTake, afterDone, afterAbort}
 use Rattle.outbox.specs.Refusals.{possible, usable, putRefusal, waitRefusal, takeRefusal, doneRefusal, abortRefusal}
 use Rattle.outbox.specs.Calls as Wire
@@ -95,8 +95,7 @@ module _ (d : Device) (q t out : List ℕ) (i : ℕ) (b : Inbox) (o : Outbox) (h
       Wire.settled n (beside n) [] (d .send) t (Wire.puts (d .send) m v t)
 
   -- refused by its own refusal
-  put-not : (own : ℕ) (beside : ℕ → ℕ) (m : Message) (v : ℕ) → eqb own 0 ≡ false
-      → Put own beside m v ≡ Wire.refused own (beside own) [] (d .send) t
+  put-not : (own : ℕ) (beside : ℕ → ℕ) (m : Message) (v : ℕ) → eqb own 0 ≡ false → Put own beside m v ≡ Wire.refused own (beside own) [] (d .send) t
   unfolding putRefusal
   put-not own beside m v z = rw (ready, z, z)
 
@@ -131,9 +130,7 @@ module _ (d : Device) (q t out : List ℕ) (i : ℕ) (b : Inbox) (o : Outbox) (h
       let n = binaryRefusal (d .shared) m in
       rw receive
       (by-test (eqb n 0)
-      (λ z.
-      let none = eqb-true n 0 z in
-      rw (z, none) (put-is (λ k. 0) (sentMessage (d .shared) m) 0 refl (sent-sound (d .shared) m f none)))
+      (λ z. rw (z, eqb-true n 0 z) (put-is (λ k. 0) (sentMessage (d .shared) m) 0 refl (sent-sound (d .shared) m f (eqb-true n 0 z))))
       (λ z. rw (z, put-not n (λ k. 0) (sentMessage (d .shared) m) 0 z) (told (says n) d q t out, h)))
 
   -- a text send
@@ -143,9 +140,7 @@ module _ (d : Device) (q t out : List ℕ) (i : ℕ) (b : Inbox) (o : Outbox) (h
       let align = d .shared .align in
       let f = formatOf (d .shared) (d .shared .format) in
       rw receive
-      (read-is
-      (λ a. readMessage align f text ≡ a
-      → Agrees (lifted (Wire.readSent (d .shared) (d .send) (Wire.readAs a) t) d l) out (Mailed d i b (putText a o)))
+      (read-is (λ a. readMessage align f text ≡ a → Agrees (lifted (Wire.readSent (d .shared) (d .send) (Wire.readAs a) t) d l) out (Mailed d i b (putText a o)))
       align f text
       (λ e. rw (put-not 6 (beside 6 0) noMessage 0 refl) (told (says 6) d q t out, h))
       (λ n r e.
@@ -168,8 +163,7 @@ module _ (d : Device) (q t out : List ℕ) (i : ℕ) (b : Inbox) (o : Outbox) (h
   unfolding Wire.taken takeRefusal waitRefusal
   taken-5 tick e = rw (ready, e)
 
-  taken-4 : (tick : ℕ) → d .send .held ≡ false → o .buffer ≡ []
-      → After tick ≡ Wire.refused 4 0 (replicate messageSize 0) (d .send) t
+  taken-4 : (tick : ℕ) → d .send .held ≡ false → o .buffer ≡ [] → After tick ≡ Wire.refused 4 0 (replicate messageSize 0) (d .send) t
   unfolding Wire.taken takeRefusal waitRefusal
   taken-4 tick e n = rw (ready, e, eq-eqb (d .send .ring .count) 0 (count-is ∙ ap length n))
 
@@ -200,8 +194,7 @@ module _ (d : Device) (q t out : List ℕ) (i : ℕ) (b : Inbox) (o : Outbox) (h
       register = (refl, refl, first);
     }
 
-  finished-4 : (tick : ℕ) → d .send .held ≡ false
-      → Wire.finished (d .shared) (d .send) tick t ≡ Wire.refused 4 0 [] (d .send) t
+  finished-4 : (tick : ℕ) → d .send .held ≡ false → Wire.finished (d .shared) (d .send) tick t ≡ Wire.refused 4 0 [] (d .send) t
   unfolding Wire.finished doneRefusal
   finished-4 tick e = rw (able, e)
 
@@ -211,9 +204,7 @@ module _ (d : Device) (q t out : List ℕ) (i : ℕ) (b : Inbox) (o : Outbox) (h
   unfolding Wire.finished doneRefusal
   finished-0 tick m e q =
       rw (able, e)
-      (ap
-      (λ (x : Message). Wire.ends 0 0 [] (afterDone (d .send)) t (Wire.raisedIf (raisesAtDone (d .send .tx)) 2 tick x))
-      q)
+      (ap (λ (x : Message). Wire.ends 0 0 [] (afterDone (d .send)) t (Wire.raisedIf (raisesAtDone (d .send .tx)) 2 tick x)) q)
 
   aborted-0 : (tick : ℕ) → Wire.aborted (d .shared) (d .send) tick t ≡ Wire.aborts (d .send) tick t
   unfolding Wire.aborted abortRefusal
@@ -275,7 +266,7 @@ module _ (d : Device) (q t out : List ℕ) (i : ℕ) (b : Inbox) (o : Outbox) (h
       rw both
       (agrees-as
       (ap (λ (w : Wire.Outcome). carrying w d l) (aborted-0 tick)
-      ∙ carries-as (d .send .held) 3 tick (d .send .message) refl 0 _ [] (afterAbort (d .send)) t d l)
+      ∙ carries-as (d .send .held) 3 tick (d .send .message) refl 0 (d .send .ring .count) [] (afterAbort (d .send)) t d l)
       (by (o .register) (h .outbox .register)))
     where
       after : Outbox

@@ -21,7 +21,11 @@ use Rattle.ids.specs.EventMask.{maskBit, maskLets}
 use Rattle.records.specs.Messages.{messageSize, stored, goodMessage, messageBytes, messageIn, isMessage, noMessage, judgeMessage}
 use Rattle.records.specs.Events.{eventSize, holdsFrame, kindOf, eventBytes, eventIn, isEvent}
 use Rattle.records.specs.declared.Message.{Message}
-use Rattle.queue.specs.Queue.{goodReceive, queued, unfiltered, raising, reading}
+use Rattle.inbox.specs.Channel.{goodReceive}
+use Rattle.inbox.specs.Refusals.{ready, raiseRefusal, oldestRefusal, recordRefusal, textRefusal, throughRefusal}
+use Rattle.inbox.specs.Refusals as Judged
+use Rattle.inbox.specs.Calls.{queued, unfiltered, meets}
+use Rattle.inbox.specs.Calls as Queue
 use Rattle.records.specs.Raised.{filtered, eventOf}
 use Rattle.outbox.specs.Channel.{goodSend}
 use Rattle.outbox.specs.Refusals.{possible, usable, putRefusal}
@@ -150,8 +154,8 @@ rows =
 pub sheet : map (λ (r : Row). r .said) rows ≡ map (λ (r : Row). r .paper) rows
 unfolding rows warning reading-one outcome opened goodShared good formatOf goodReceive goodRing goodTx goodSend modeTakes textSent readMessage beforeEnd endRun byteKind
     judged judgedData numbersFrom rawOf isFormat idLow idBits carried allBytes Outbox.textSent putRefusal usable possible slotOf store slot ring messageBytes linePrinted messageRefusal
-    headerRefusal messageLine messageText hex hexDigit fields raised holdsFrame kindOf eventOf stored raising unfiltered filtered framePasses idPasses isFilter
-    filterLow dataCompared free fieldMeets byteMeets dataPasses maskBit maskLets queued eventBytes through freeBits letThrough run next recordRead reading isEvent
+    headerRefusal messageLine messageText hex hexDigit fields raised holdsFrame kindOf eventOf stored Queue.raised Judged.possible ready raiseRefusal meets unfiltered filtered framePasses idPasses isFilter
+    filterLow dataCompared free fieldMeets byteMeets dataPasses maskBit maskLets queued eventBytes through freeBits letThrough Queue.through throughRefusal run next recordRead Queue.recordRead recordRefusal oldestRefusal isEvent
 sheet = refl
 
 -- raise 1, 2, read, raise 3, 4, read, raise 5
@@ -197,6 +201,6 @@ others =
 pub others-too : map (λ (r : Row). r .said) others ≡ map (λ (r : Row). r .paper) others
 unfolding others received warning reading-one outcome opened goodShared good formatOf goodReceive goodRing goodTx goodSend modeTakes textSent readMessage beforeEnd endRun
     byteKind judged judgedData numbersFrom rawOf isFormat idLow idBits carried allBytes Outbox.textSent putRefusal usable possible slotOf store slot ring messageBytes linePrinted messageRefusal
-    headerRefusal messageLine messageText hex hexDigit fields raised holdsFrame kindOf eventOf stored raising unfiltered filtered framePasses idPasses isFilter
-    filterLow dataCompared free fieldMeets byteMeets dataPasses maskBit maskLets queued eventBytes through freeBits letThrough run next recordRead reading isEvent textRead eventIn judgeMessage messageIn isMessage goodMessage eventLine eventText frameText wordOf decimalIn
+    headerRefusal messageLine messageText hex hexDigit fields raised holdsFrame kindOf eventOf stored Queue.raised Judged.possible ready raiseRefusal meets unfiltered filtered framePasses idPasses isFilter
+    filterLow dataCompared free fieldMeets byteMeets dataPasses maskBit maskLets queued eventBytes through freeBits letThrough Queue.through throughRefusal run next recordRead Queue.recordRead recordRefusal oldestRefusal isEvent textRead Queue.textRead textRefusal eventIn judgeMessage messageIn isMessage goodMessage eventLine eventText frameText wordOf decimalIn
 others-too = refl

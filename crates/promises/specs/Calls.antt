@@ -6,7 +6,7 @@ use mathlib.Core.List.{List, [], _∷_}
 use Rattle.common.specs.Choice.{pick}
 use Rattle.common.specs.Numbers.{allZero, among}
 use Rattle.common.specs.Refusals.{isRefusal}
-use Rattle.queue.specs.Queue.{looked}
+use Rattle.inbox.specs.Calls.{looked}
 use Rattle.recorder.specs.State.{good}
 use Rattle.recorder.specs.Outcomes.{Lent, Outcome, ends}
 use Rattle.recorder.specs.Receiving.{modeSet, formatSet, filterSet, eventMaskSet, raised, recordRead, textRead, lookSaid, through}

@@ -16,8 +16,8 @@ use Rattle.records.specs.declared.Message.{Message}
 use Rattle.records.specs.declared.Event.{Event}
 use Rattle.settings.specs.Ranges.{goodShared}
 use Rattle.settings.specs.TxMode.{goodTx}
-use Rattle.queue.specs.Queue.{queueLimit}
-use Rattle.queue.specs.declared.Receive.{Receive}
+use Rattle.inbox.specs.Channel.{queueLimit}
+use Rattle.inbox.specs.declared.Receive.{Receive}
 use Rattle.outbox.specs.Channel.{sendLimit}
 use Rattle.outbox.specs.declared.Send.{Send}
 use Rattle.recorder.specs.Outcomes.{Outcome}

@@ -7,8 +7,8 @@ use Prim.Native.Nat.{ℕ}
 use lib.ListN.{length}
 use Rattle.common.proofs.Bools.{and-left}
 use Rattle.records.specs.declared.Message.{Message}
-use Rattle.queue.specs.Queue.{goodReceive, usable}
-use Rattle.queue.specs.declared.Receive.{Receive}
+use Rattle.inbox.specs.Channel.{goodReceive, usable}
+use Rattle.inbox.specs.declared.Receive.{Receive}
 use Rattle.outbox.specs.Channel.{sendFits}
 use Rattle.outbox.specs.declared.Send.{Send}
 use Rattle.recorder.specs.State.{good, withReceive}

@@ -2,7 +2,7 @@ pub mod Meeting
 pub mod Ready
 pub mod OpenWays
 pub mod ChangeWays
-pub mod ReadWays
+pub mod ReceiveWays
 pub mod SendWays
 pub mod PrintWays
 pub mod Unique

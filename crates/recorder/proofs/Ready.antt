@@ -8,7 +8,6 @@ use lib.Dec.{leb, eqb}
 use borrow.Author.Tests.{leb-true, eqb-true}
 use Rattle.common.proofs.Bools.{and-left, and-right}
 use Rattle.common.proofs.Choices.{pick-is}
-use Rattle.common.proofs.RingFacts.{RingFacts}
 use Rattle.ids.specs.Filters.{modeTakes}
 use Rattle.records.specs.Events.{codeOf, holdsFrame, kindOf}
 use Rattle.records.specs.declared.Event.{Event}
@@ -16,9 +15,8 @@ use Rattle.records.specs.declared.Kind.{Kind}
 use Rattle.records.specs.declared.Message.{Message}
 use Rattle.records.specs.Raised.{eventOf}
 use Rattle.settings.specs.Ranges.{goodShared}
-use Rattle.queue.specs.Queue.{queueLimit, goodReceive, queueFits, usable}
-use Rattle.queue.proofs.Laws.{ring-of, judged}
-use Rattle.queue.specs.declared.Receive.{Receive}
+use Rattle.inbox.specs.Channel.{goodReceive, queueFits, usable}
+use Rattle.inbox.specs.declared.Receive.{Receive}
 use Rattle.outbox.specs.Channel.{goodSend}
 use Rattle.recorder.specs.State.{good}
 use Rattle.recorder.specs.Outcomes.{Lent, queueReady}
@@ -39,7 +37,7 @@ receive-good d h =
 
 -- and its receive side is usable
 pub ready-usable : (d : Device) (l : Lent) → queueReady d l ≡ true → usable (d .receive) (l .queue) ≡ true
-ready-usable d l h = judged (d .receive) (l .queue) (receive-good d (ready-good d l h)) (ready-fits d l h)
+ready-usable d l h = rw (receive-good d (ready-good d l h), ready-fits d l h)
 
 -- a good device has a possible Align
 pub align-in : (d : Device) → good d ≡ true → d .shared .align ≤ 3
@@ -49,10 +47,6 @@ align-in d h =
     leb-true (s .align) 3
     (and-right (leb (s .mode) 1 && leb (s .format) 2 && modeTakes (s .mode) (s .format)) (leb (s .align) 3)
     (and-left (goodShared s) (goodReceive (d .receive)) (and-left (goodShared s && goodReceive (d .receive)) (goodSend (d .send)) h)))
-
--- the ring of a ready device's receive channel is good
-pub ready-ring : (d : Device) (l : Lent) → queueReady d l ≡ true → RingFacts queueLimit (d .receive .ring)
-ready-ring d l h = ring-of (d .receive) (receive-good d (ready-good d l h))
 
 -- an event of a code other than 1 has another code than 1
 pub other-code : (code tick : ℕ) (m : Message) → (code ≡ 1 → ⊥) → codeOf (eventOf code tick m .kind) ≡ 1 → ⊥

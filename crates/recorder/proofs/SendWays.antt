@@ -9,7 +9,7 @@ use Rattle.common.specs.Choice.{pick}
 use Rattle.records.specs.Raised.{eventOf}
 use Rattle.records.specs.declared.Event.{Event}
 use Rattle.records.specs.declared.Message.{Message}
-use Rattle.queue.specs.Queue.{raising}
+use Rattle.inbox.specs.Calls.{meets}
 use Rattle.outbox.specs.Calls as Outbox
 use Rattle.outbox.specs.declared.Raised.{Raised}
 use Rattle.outbox.specs.declared.Send.{Send}
@@ -31,7 +31,7 @@ module _ (r : Raised) (d : Device) (q : List ℕ) where
 
   pub carries-one : {n : Device} {t : List ℕ} (e : Event) → (r .code ≡ 0 → ⊥)
       → e ≡ eventOf (r .code) (r .tick) (r .message)
-      → NoteMet (raising (d .shared .mode) (d .shared .align) (d .receive) e q) d n t
+      → NoteMet (meets (d .shared) (d .receive) e q) d n t
       → NoteMet (carried r (d .shared) (d .receive) q) d n t
   unfolding carried
   carries-one e z p m = rw (ne-eqb (r .code) 0 z) (rw p at m)

@@ -6,7 +6,8 @@ use mathlib.Core.List.{List, []}
 use lib.ListN.{length}
 use Rattle.records.specs.declared.Event.{Event}
 use Rattle.digits.specs.declared.Printed.{Printed}
-use Rattle.queue.specs.Queue.{Raising, raising, queueFits}
+use Rattle.inbox.specs.Channel.{queueFits}
+use Rattle.inbox.specs.Calls.{Raising, meets}
 use Rattle.outbox.specs.Channel.{sendFits}
 use Rattle.recorder.specs.State.{good, withReceive}
 use Rattle.recorder.specs.declared.Device.{Device}
@@ -62,7 +63,7 @@ withOut l t = record { queue = l .queue; send = l .send; out = t }
 
 -- an event meets filter, mask and queue of the device
 abbrev pub met : Event → Device → Lent → Raising
-met e d l = raising (d .shared .mode) (d .shared .align) (d .receive) e (l .queue)
+met e d l = meets (d .shared) (d .receive) e (l .queue)
 
 -- a call's outcome with the event that it raises beside it: number, value and bytes stay
 unfoldable pub noted : Event → Outcome → Outcome

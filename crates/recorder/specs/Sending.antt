@@ -8,8 +8,9 @@ use Rattle.records.specs.Messages.{messageSize}
 use Rattle.records.specs.Raised.{eventOf}
 use Rattle.records.specs.declared.Message.{Message}
 use Rattle.settings.specs.declared.Shared.{Shared}
-use Rattle.queue.specs.Queue.{goodReceive, usable, Raising, raises, raising}
-use Rattle.queue.specs.declared.Receive.{Receive}
+use Rattle.inbox.specs.Channel.{goodReceive, usable}
+use Rattle.inbox.specs.Calls.{Raising, raises, meets}
+use Rattle.inbox.specs.declared.Receive.{Receive}
 use Rattle.outbox.specs.Calls as Outbox
 use Rattle.outbox.specs.declared.Raised.{Raised}
 use Rattle.recorder.specs.State.{withReceive, withSend}
@@ -23,7 +24,7 @@ lifted o d l = ends (o .number) (o .value) (o .bytes) (withSend d (o .send)) (wi
 -- the event that a call on the send channel raises meets filter, mask and queue; code 0 is none
 unfoldable pub carried : Raised → Shared → Receive → List ℕ → Raising
 carried e s r q =
-    pick (eqb (e .code) 0) (raises 0 r q) (raising (s .mode) (s .align) r (eventOf (e .code) (e .tick) (e .message)) q)
+    pick (eqb (e .code) 0) (raises 0 r q) (meets s r (eventOf (e .code) (e .tick) (e .message)) q)
 
 -- the same with the event carried to the queue: number, value and bytes stay
 abbrev pub carrying : Outbox.Outcome → Device → Lent → Outcome

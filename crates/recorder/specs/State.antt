@@ -5,8 +5,8 @@ use Rattle.records.specs.Messages.{noMessage}
 use Rattle.settings.specs.Ranges.{goodShared}
 use Rattle.settings.specs.declared.Shared.{Shared}
 use Rattle.settings.specs.declared.Settings.{Settings}
-use Rattle.queue.specs.Queue.{goodReceive}
-use Rattle.queue.specs.declared.Receive.{Receive}
+use Rattle.inbox.specs.Channel.{goodReceive}
+use Rattle.inbox.specs.declared.Receive.{Receive}
 use Rattle.outbox.specs.Channel.{goodSend}
 use Rattle.outbox.specs.declared.Send.{Send}
 use Rattle.recorder.specs.declared.Device.{Device}

@@ -1,9 +1,7 @@
-// Changes of setting.
+// Changes of setting: mode and format are the device's, the rest is the inbox's once the send channel was judged.
 use crate::Answer;
 use crate::Device;
 use crate::state;
-use ids::Filter;
-use queue::Receive;
 use settings::Shared;
 ghost use mathlib.Core.Path.{_≡_};
 ghost use mathlib.Core.List.{[]};
@@ -55,44 +53,22 @@ pub fn set_format(d: Device, format: u32, tick: u32, queue: &mut [u8]) -> Answer
 pub fn set_filter(d: Device, code: u32, mask: u32) -> Answer
     ensures { λ r. ⌜ r ≡ answerOf (filterSet code mask d (lends [] [] [])) ⌝ }
 {
-    if !state::is_good(d) {
+    if !outbox::channel::is_send(d.send) {
         return state::answer(2, 0, d);
     }
-    let old = d.receive;
-    let was = old.filter;
-    let filter = Filter {
-        active: was.active,
-        code: code,
-        mask: mask,
-    };
-    let ring = old.ring;
-    let receive = Receive {
-        filter: filter,
-        events: old.events,
-        ring: ring,
-        pending: old.pending,
-    };
-    state::answer(0, 0, state::with_receive(d, receive))
+    let o = inbox::changing::set_filter(d.shared, d.receive, code, mask);
+    let next = o.receive;
+    state::answer(o.number, o.value, state::with_receive(d, next))
 }
 
 // Sets the event mask.
 pub fn set_event_mask(d: Device, events: u32) -> Answer
     ensures { λ r. ⌜ r ≡ answerOf (eventMaskSet events d (lends [] [] [])) ⌝ }
 {
-    if !state::is_good(d) {
+    if !outbox::channel::is_send(d.send) {
         return state::answer(2, 0, d);
     }
-    if 4096 <= events {
-        return state::answer(1, 0, d);
-    }
-    let old = d.receive;
-    let filter = old.filter;
-    let ring = old.ring;
-    let receive = Receive {
-        filter: filter,
-        events: events,
-        ring: ring,
-        pending: old.pending,
-    };
-    state::answer(0, 0, state::with_receive(d, receive))
+    let o = inbox::changing::set_event_mask(d.shared, d.receive, events);
+    let next = o.receive;
+    state::answer(o.number, o.value, state::with_receive(d, next))
 }

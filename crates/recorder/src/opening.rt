@@ -4,8 +4,8 @@ use crate::Device;
 use crate::state;
 use common::Ring;
 use ids::Filter;
+use inbox::Receive;
 use outbox::Send;
-use queue::Receive;
 use settings::Settings;
 use settings::Shared;
 ghost use mathlib.Core.Path.{_≡_};
@@ -94,7 +94,7 @@ pub fn open(s: Settings, queue: &[u8], send: &[u8]) -> Answer
     if !state::is_good(d) {
         return state::answer(1, 0, no_device());
     }
-    if !queue::raising::fits(d.receive, queue.len()) {
+    if !inbox::channel::fits(d.receive, queue.len()) {
         return state::answer(2, 0, no_device());
     }
     if !outbox::channel::fits(d.send, send.len()) {

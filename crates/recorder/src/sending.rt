@@ -3,6 +3,7 @@ use crate::Answer;
 use crate::Device;
 use crate::state;
 use records::Message;
+ghost use mathlib.Core.Path.{_≡_};
 ghost use mathlib.Core.List.{[]};
 ghost use Rattle.recorder.specs.Outcomes.{lends, SendMet};
 ghost use Rattle.recorder.specs.Sending.{sent, textSent};
@@ -11,7 +12,7 @@ ghost use Rattle.recorder.specs.Sending.{sent, textSent};
 pub fn send(d: Device, m: Message, send: &mut [u8]) -> Answer
     ensures { λ r. ⌜ SendMet (sent m d (lends [] (now (send .entry)) [])) r (now (send .exit)) ⌝ }
 {
-    if !queue::raising::is_receive(d.receive) {
+    if !inbox::channel::is_receive(d.receive) {
         return state::answer(2, 0, d);
     }
     let o = outbox::calls::send(d.shared, d.send, m, send);
@@ -23,7 +24,7 @@ pub fn send(d: Device, m: Message, send: &mut [u8]) -> Answer
 pub fn send_text(d: Device, text: &[u8], send: &mut [u8]) -> Answer
     ensures { λ r. ⌜ SendMet (textSent (now (text .entry)) d (lends [] (now (send .entry)) [])) r (now (send .exit)) ⌝ }
 {
-    if !queue::raising::is_receive(d.receive) {
+    if !inbox::channel::is_receive(d.receive) {
         return state::answer(2, 0, d);
     }
     let o = outbox::calls::send_text(d.shared, d.send, text, send);

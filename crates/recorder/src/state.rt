@@ -1,14 +1,15 @@
 // A device's state: is it possible, and with which part exchanged.
 use crate::Answer;
 use crate::Device;
+use inbox::Receive;
 use outbox::Send;
-use queue::Receive;
 use records::Event;
 use settings::Shared;
 ghost use mathlib.Core.Path.{_≡_};
 ghost use mathlib.Core.Bool.{true, _&&_};
 ghost use Rattle.records.specs.Events.{codeOf};
-ghost use Rattle.queue.specs.Queue.{goodReceive, queueFits, usable, raising};
+ghost use Rattle.inbox.specs.Channel.{goodReceive, queueFits, usable};
+ghost use Rattle.inbox.specs.Calls.{meets};
 ghost use Rattle.recorder.specs.State.{good, withShared, withReceive, withSend};
 ghost use Rattle.recorder.specs.Outcomes.{answers, NoteMet};
 
@@ -21,7 +22,7 @@ pub fn is_good(d: Device) -> bool
         return false;
     }
     let receive = d.receive;
-    if !queue::raising::is_receive(receive) {
+    if !inbox::channel::is_receive(receive) {
         return false;
     }
     let send = d.send;
@@ -36,7 +37,7 @@ pub fn queue_ready(d: Device, n: usize) -> bool
         return false;
     }
     let receive = d.receive;
-    queue::raising::fits(receive, n)
+    inbox::channel::fits(receive, n)
 }
 
 // The receive channel is possible and the event table, of n bytes, long enough.
@@ -44,10 +45,10 @@ pub fn receive_ready(d: Device, n: usize) -> bool
     ensures { λ ok. ⌜ ok ≡ (goodReceive (d .receive) && queueFits (d .receive) n) ⌝ }
 {
     let receive = d.receive;
-    if !queue::raising::is_receive(receive) {
+    if !inbox::channel::is_receive(receive) {
         return false;
     }
-    queue::raising::fits(receive, n)
+    inbox::channel::fits(receive, n)
 }
 
 pub fn with_shared(d: Device, s: Shared) -> Device
@@ -100,10 +101,10 @@ pub fn answer(number: u32, value: usize, d: Device) -> Answer
 // The device after an event that a call raises beside its answer, over a device and a table that were judged: only code 1 meets the filter.
 pub fn note(d: Device, e: Event, table: &mut [u8]) -> Device
     requires { ⌜ (usable (d .receive) (now table) ≡ true) × (codeOf (e .kind) ≡ 1 → ⊥) ⌝ }
-    ensures { λ n. ⌜ NoteMet (raising (d .shared .mode) (d .shared .align) (d .receive) e (now (table .entry))) d n (now (table .exit)) ⌝ }
+    ensures { λ n. ⌜ NoteMet (meets (d .shared) (d .receive) e (now (table .entry))) d n (now (table .exit)) ⌝ }
 {
     let receive = d.receive;
-    let met = queue::raising::past_filter(receive, e, table);
-    let next = queue::raising::after_raise(receive, met);
+    let met = inbox::raising::past_filter(receive, e, table);
+    let next = inbox::raising::after_raise(receive, met);
     with_receive(d, next)
 }

@@ -1,9 +1,10 @@
 use Rattle.board.proofs.Ways.{not-look, look-taken, look-refused, look-shown}
-use Rattle.queue.proofs.Laws.{ring-of, look-good}
+use Rattle.inbox.proofs.Laws.{ring-of, look-good}
 use native.Mathlib.Omega.{arith}
 use Rattle.kept.proofs.Laws.{state-long}
 use Rattle.common.proofs.Bools.{said, denied}
-use mathlib.Core.Path.{sym, _∙_}
+use mathlib.Core.Path.{refl, sym, _∙_}
+use lib.ListN.{length}
 use denote.Ref.{now}
 use borrow.Author.Needs.{needs}
 use Rattle.board.proofs.receiving.sv_look.Statement.{statement}
@@ -39,9 +40,10 @@ slot-of-requires c κs =
     let look-number = c .before .before .before .look-number in
     let if2 = c .before .before .if2 in
     let d = device-in .result in
-    let g = look-good (d .receive) (now (a .queue)) (a .p) (look-taken (a .p) d (now (a .queue)) (sym (look-number .ensures) ∙ if2 .left)) in
+    let none = look-taken (a .p) d (now (a .queue)) (sym (look-number .ensures) ∙ if2 .left) in
+    let g = look-good (d .shared) (d .receive) (length (now (a .queue))) (a .p) _ refl none in
     let f = ring-of (d .receive) (g .0) in
-    (f .within, f .first-in, omega (arith, f .count-in, g .2))
+    (f .within, f .first-in, omega (arith, f .count-in, g .1))
 
 cast-offset : tie.Need-cast-offset
 cast-offset c = search needs

@@ -1,7 +1,7 @@
 use mathlib.Core.Path.{sym, ap, _∙_}
 use denote.Ref.{now}
-use Rattle.queue.specs.Queue.{Raising}
-use Rattle.queue.proofs.Laws.{no-filter, next-past, room-for, built}
+use Rattle.inbox.specs.Calls.{Raising}
+use Rattle.inbox.proofs.Laws.{no-filter, next-past, room-for, built}
 use Rattle.recorder.specs.State.{withReceive}
 use borrow.Author.Needs.{needs}
 use Rattle.recorder.proofs.state.note.Statement.{statement}
@@ -27,7 +27,7 @@ returns c =
     let d = s .args .d in
     let t = now (s .args .table) in
     let met = c .before .before .before .before .past-filter .ensures in
-    let same = no-filter (d .shared .mode) (d .shared .align) (d .receive) (s .args .e) t (s .pre .0) (s .pre .1) in
+    let same = no-filter (d .shared) (d .receive) (s .args .e) t (s .pre .1) in
     let next = built (next-past (d .receive) (s .args .e) t) (met .number) (c .before .after-raise .ensures) in
     record {
       device = c .with-receive .ensures ∙ ap (withReceive d) next ∙ sym (ap (λ (o : Raising). withReceive d (o .receive)) same);

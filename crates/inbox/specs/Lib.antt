@@ -1,0 +1,3 @@
+pub mod Channel
+pub mod Refusals
+pub mod Calls
