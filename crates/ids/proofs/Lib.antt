@@ -1,5 +1,6 @@
 pub mod Bits
 pub mod Fields
+mod Open
 pub mod Frames
 pub mod EventMask
 pub mod RoundTrip

@@ -4,10 +4,11 @@ use crate::Header;
 use crate::align;
 use crate::frame;
 ghost use mathlib.Core.Path.{_≡_};
+ghost use mathlib.Core.Bool.{_&&_};
 ghost use Prim.Native.Nat.{ℕ, _+_, _-_, _^_, _≤_, _<_};
 ghost use lib.Dec.{eqb};
 ghost use Rattle.common.specs.Choice.{pick};
-ghost use Rattle.ids.specs.Ids.{bit, idBits};
+ghost use Rattle.ids.specs.Ids.{bit, isFormat, idBits};
 ghost use Rattle.ids.specs.Filters.{isFilter, filterLow, fieldMeets, byteMeets, idPasses, dataPasses, modeTakes, framePasses, freeBits, letThrough};
 
 // An Align from 0 to 3 and a MaskActive of 0 or 1.
@@ -18,6 +19,16 @@ fn is_filter(align: u32, active: u32) -> bool
         return false;
     }
     active <= 1
+}
+
+// The filter has a column for this Align and format: else it lets nothing through.
+fn has_column(align: u32, active: u32, format: u32) -> bool
+    ensures { λ r. ⌜ r ≡ (isFilter align active && isFormat format) ⌝ }
+{
+    if !is_filter(align, active) {
+        return false;
+    }
+    align::is_format(format)
 }
 
 // The number of bits of an identifier.
@@ -90,10 +101,7 @@ fn field_meets(q: Filter, low: u32, v: u32, w: u32) -> bool
 pub fn id_passes(align: u32, q: Filter, format: u32, id: u32) -> bool
     ensures { λ r. ⌜ r ≡ idPasses align q format id ⌝ }
 {
-    if !is_filter(align, q.active) {
-        return false;
-    }
-    if !align::is_format(format) {
+    if !has_column(align, q.active, format) {
         return false;
     }
     field_meets(q, filter_low(format, align), id, id_bits(format))
@@ -136,12 +144,15 @@ pub fn mode_takes(mode: u32, format: u32) -> bool
     true
 }
 
-// A frame whose first two data bytes are these passes the filter.
+// A frame whose first two data bytes are these passes the filter; one that must match no bit is done at once.
 pub fn frame_passes(mode: u32, align: u32, q: Filter, h: Header, first: u8, second: u8) -> bool
     ensures { λ r. ⌜ r ≡ framePasses mode align q h first second ⌝ }
 {
     if !mode_takes(mode, h.format) {
         return false;
+    }
+    if same_bits(q.mask, q.active) == 0 {
+        return has_column(align, q.active, h.format);
     }
     if !id_passes(align, q, h.format, h.id) {
         return false;
@@ -162,10 +173,7 @@ fn free_bits(q: Filter, low: u32, w: u32) -> u32
 pub fn let_through(align: u32, q: Filter, format: u32) -> u32
     ensures { λ r. ⌜ r ≡ letThrough align q format ⌝ }
 {
-    if !is_filter(align, q.active) {
-        return 0;
-    }
-    if !align::is_format(format) {
+    if !has_column(align, q.active, format) {
         return 0;
     }
     1 << free_bits(q, filter_low(format, align), id_bits(format))

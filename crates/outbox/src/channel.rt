@@ -4,10 +4,10 @@ use common::rings;
 ghost use mathlib.Core.Path.{_≡_};
 ghost use Rattle.outbox.specs.Channel.{goodSend, sendFits};
 
-// The bytes of a slot, and the most of them.
-pub const SLOT: usize = 16;
+// The bytes of a slot, and the most slots.
+pub const SLOT: usize = records::messages::MESSAGE;
 
-const LIMIT: u32 = 1024;
+pub const LIMIT: u32 = 1024;
 
 // Settings and numbers that a send channel can have.
 pub fn is_send(s: Send) -> bool

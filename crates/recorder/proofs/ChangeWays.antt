@@ -1,17 +1,23 @@
 -- What each way through set_mode and set_format shows.
-use mathlib.Core.Path.{_≡_}
+use mathlib.Core.Path.{_≡_, _∙_}
 use mathlib.Core.Bool.{true, false}
-use mathlib.Core.List.{[]}
+use mathlib.Core.List.{List, []}
 use Prim.Native.Nat.{ℕ}
+use native.Mathlib.Omega.{arith}
 use Rattle.records.specs.Messages.{noMessage}
 use Rattle.records.specs.Raised.{eventOf}
 use Rattle.settings.specs.Ranges.{goodShared}
 use Rattle.settings.specs.declared.Shared.{Shared}
+use Rattle.inbox.specs.Calls.{RaiseMet, unfiltered}
+use Rattle.inbox.specs.declared.Receive.{Receive}
+use Rattle.inbox.proofs.Laws.{no-filter}
 use Rattle.recorder.specs.State.{withShared, withReceive}
-use Rattle.recorder.specs.Outcomes.{Lent, ends, refuses, queueReady, withQueue, met}
+use Rattle.recorder.specs.Outcomes.{Lent, ends, refuses, queueReady, withQueue, met, answers, QueueMet}
 use Rattle.recorder.specs.Receiving.{changed}
 use Rattle.recorder.specs.declared.Device.{Device}
+use Rattle.recorder.specs.declared.Answer.{Answer}
 use Rattle.recorder.proofs.Meeting.{noted-ends}
+use Rattle.recorder.proofs.Ready.{other-code}
 
 -- set_mode and set_format: change-N is the way that answers N
 module _ (s : Shared) (tick : ℕ) (d : Device) (l : Lent) where
@@ -28,3 +34,12 @@ module _ (s : Shared) (tick : ℕ) (d : Device) (l : Lent) where
       ≡ ends 0 0 [] (withReceive (withShared d s) (met (eventOf 5 tick noMessage) (withShared d s) l .receive)) (withQueue l (met (eventOf 5 tick noMessage) (withShared d s) l .table))
   unfolding changed
   change-0 g h = rw (g, h) (noted-ends (eventOf 5 tick noMessage) 0 0 [] (withShared d s) l)
+
+  -- the code's way to it: code 5 goes past the filter
+  pub change-met : queueReady d l ≡ true → goodShared s ≡ true → {n : ℕ} {q : List ℕ} {r : Receive} {a : Answer}
+      → RaiseMet (unfiltered (d .receive) (eventOf 5 tick noMessage) (l .queue)) n q
+      → r ≡ unfiltered (d .receive) (eventOf 5 tick noMessage) (l .queue) .receive
+      → a ≡ answers 0 0 (withReceive (withShared d s) r) → QueueMet (changed s tick d l) a q
+  change-met g h m e p =
+      let same = no-filter s (d .receive) (eventOf 5 tick noMessage) (l .queue) (other-code 5 tick noMessage (λ x. omega arith)) in
+      rw (change-0 g h) (record { answer = p ∙ rw (e, ← same); queue-bytes = m .table ∙ rw (← same) })

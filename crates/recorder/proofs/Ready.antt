@@ -1,22 +1,18 @@
 -- What a device that is ready says of its parts.
-use mathlib.Core.Path.{_≡_}
+use mathlib.Core.Path.{_≡_, sym, _∙_}
 use mathlib.Core.Bool.{true, _&&_}
 use Prim.Native.Nat.{ℕ, _≤_}
-use native.Mathlib.Omega.{arith}
 use lib.ListN.{length}
-use lib.Dec.{leb, eqb}
-use borrow.Author.Tests.{leb-true, eqb-true}
+use lib.Dec.{leb}
+use borrow.Author.Tests.{leb-true}
 use Rattle.common.proofs.Bools.{and-left, and-right}
-use Rattle.common.proofs.Choices.{pick-is}
 use Rattle.ids.specs.Filters.{modeTakes}
-use Rattle.records.specs.Events.{codeOf, holdsFrame, kindOf}
-use Rattle.records.specs.declared.Event.{Event}
-use Rattle.records.specs.declared.Kind.{Kind}
+use Rattle.records.specs.Events.{codeOf}
 use Rattle.records.specs.declared.Message.{Message}
 use Rattle.records.specs.Raised.{eventOf}
+use Rattle.records.proofs.OfCode.{event-code}
 use Rattle.settings.specs.Ranges.{goodShared}
 use Rattle.inbox.specs.Channel.{goodReceive, queueFits, usable}
-use Rattle.inbox.specs.declared.Receive.{Receive}
 use Rattle.outbox.specs.Channel.{goodSend}
 use Rattle.recorder.specs.State.{good}
 use Rattle.recorder.specs.Outcomes.{Lent, queueReady}
@@ -50,15 +46,4 @@ align-in d h =
 
 -- an event of a code other than 1 has another code than 1
 pub other-code : (code tick : ℕ) (m : Message) → (code ≡ 1 → ⊥) → codeOf (eventOf code tick m .kind) ≡ 1 → ⊥
-unfolding eventOf kindOf
-other-code code tick m differs =
-    pick-is (λ (e : Event). codeOf (e .kind) ≡ 1 → ⊥) (holdsFrame code)
-    (λ f. pick-is (λ (k : Kind). codeOf k ≡ 1 → ⊥) (eqb code 1) (λ h. absurd (differs (eqb-true code 1 h)))
-    (λ h. pick-is (λ (k : Kind). codeOf k ≡ 1 → ⊥) (eqb code 2) (λ x y. omega arith)
-    (λ x. pick-is (λ (k : Kind). codeOf k ≡ 1 → ⊥) (eqb code 3) (λ y z. omega arith) (λ y. differs))))
-    (λ f. differs)
-
--- a ready device may raise it past the filter, whatever changed beside the receive channel
-pub may-note : (d : Device) (l : Lent) (code tick : ℕ) (m : Message) {r : Receive} {e : Event} → queueReady d l ≡ true → (code ≡ 1 → ⊥)
-    → r ≡ d .receive → e ≡ eventOf code tick m → (usable r (l .queue) ≡ true) × (codeOf (e .kind) ≡ 1 → ⊥)
-may-note d l code tick m h differs p q = (rw p (ready-usable d l h), rw q (other-code code tick m differs))
+other-code code tick m differs e = differs (sym (event-code code tick m) ∙ e)

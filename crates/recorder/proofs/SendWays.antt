@@ -1,40 +1,45 @@
 -- What each way through send, send_text, take, done and abort shows: o is what the outbox answers.
-use mathlib.Core.Path.{_≡_, refl, _∙_}
+use mathlib.Core.Path.{_≡_, refl, sym, ap, _∙_}
 use mathlib.Core.Bool.{Bool, true, false}
 use mathlib.Core.List.{List}
 use Prim.Native.Nat.{ℕ}
+use native.Mathlib.Omega.{arith}
 use lib.Dec.{eqb}
-use borrow.Author.Tests.{eq-eqb, ne-eqb}
 use Rattle.common.specs.Choice.{pick}
+use Rattle.common.proofs.Choices.{pick-is}
 use Rattle.records.specs.Raised.{eventOf}
-use Rattle.records.specs.declared.Event.{Event}
 use Rattle.records.specs.declared.Message.{Message}
-use Rattle.inbox.specs.Calls.{meets}
+use Rattle.settings.specs.declared.Shared.{Shared}
+use Rattle.inbox.specs.Calls.{raises}
+use Rattle.inbox.specs.declared.Receive.{Receive}
+use Rattle.inbox.proofs.Laws.{no-filter, NextBy, stays, next-past}
 use Rattle.outbox.specs.Calls as Outbox
 use Rattle.outbox.specs.declared.Raised.{Raised}
 use Rattle.outbox.specs.declared.Send.{Send}
 use Rattle.outbox.specs.declared.Sent.{Sent}
 use Rattle.outbox.specs.declared.Taken.{Taken as TakenOut}
 use Rattle.outbox.specs.declared.Emptied.{Emptied}
-use Rattle.recorder.specs.State.{withSend}
-use Rattle.recorder.specs.Outcomes.{Lent, Outcome, noted, answers, takes, QueueMet, SendMet, TakeMet, NoteMet}
-use Rattle.recorder.specs.Sending.{lifted, carried, carrying}
+use Rattle.recorder.specs.State.{withReceive, withSend}
+use Rattle.recorder.specs.Outcomes.{Lent, Outcome, noted, answers, takes, QueueMet, SendMet, TakeMet}
+use Rattle.recorder.specs.Sending.{lifted, carried, carriedPast, EmptiedMet, carrying}
 use Rattle.recorder.specs.declared.Device.{Device}
 use Rattle.recorder.specs.declared.Answer.{Answer}
-use Rattle.recorder.specs.declared.Taken.{Taken}
+use Rattle.recorder.proofs.Ready.{other-code}
 
--- nothing to carry, and an event that is carried
-module _ (r : Raised) (d : Device) (q : List ℕ) where
-  pub carries-none : r .code ≡ 0 → NoteMet (carried r (d .shared) (d .receive) q) d d q
-  unfolding carried
-  carries-none z = rw (eq-eqb (r .code) 0 z) (record { device = refl; queue-bytes = refl })
+-- an event of another code than 1 is carried past the filter
+module _ (e : Raised) (r : Receive) (q : List ℕ) where
+  pub carried-past : (h : Shared) → (e .code ≡ 1 → ⊥) → carried e h r q ≡ carriedPast e r q
+  unfolding carried carriedPast
+  carried-past h other =
+      ap (pick (eqb (e .code) 0) (raises 0 r q))
+      (no-filter h r (eventOf (e .code) (e .tick) (e .message)) q (other-code (e .code) (e .tick) (e .message) other))
 
-  pub carries-one : {n : Device} {t : List ℕ} (e : Event) → (r .code ≡ 0 → ⊥)
-      → e ≡ eventOf (r .code) (r .tick) (r .message)
-      → NoteMet (meets (d .shared) (d .receive) e q) d n t
-      → NoteMet (carried r (d .shared) (d .receive) q) d n t
-  unfolding carried
-  carries-one e z p m = rw (ne-eqb (r .code) 0 z) (rw p at m)
+  -- and its number says what the channel is after it
+  pub carried-next : NextBy r (carriedPast e r q)
+  unfolding carriedPast
+  carried-next =
+      pick-is (NextBy r) (eqb (e .code) 0) (λ z. stays r q 0 (λ x. omega arith, λ x. omega arith))
+      (λ z. next-past r (eventOf (e .code) (e .tick) (e .message)) q)
 
 -- the receive side was judged, and the outbox has answered
 module _ (o : Outbox.Outcome) (d : Device) (l : Lent) (w : Outcome) (ok : Bool) (z : ok ≡ true) where
@@ -43,15 +48,20 @@ module _ (o : Outbox.Outcome) (d : Device) (l : Lent) (w : Outcome) (ok : Bool) 
       → r ≡ answers (s .number) (s .value) n → SendMet (pick ok (lifted o d l) w) r t
   lifted-met s t m e a = rw z (record { answer = a ∙ rw (e, m .answer); send-bytes = m .table })
 
-  pub emptied-met : (s : Emptied) → s ≡ Outbox.emptiedOf o → {n a : Device} {q : List ℕ} → n ≡ withSend d (s .send)
-      → NoteMet (carried (s .raised) (n .shared) (n .receive) (l .queue)) n a q → {r : Answer}
-      → r ≡ answers (s .number) (s .value) a → QueueMet (pick ok (carrying o d l) w) r q
-  emptied-met s m e c a = rw z (record { answer = a ∙ rw (c .device, e, m); queue-bytes = c .queue-bytes ∙ rw (e, m) })
+  module _ (other : o .raised .code ≡ 1 → ⊥) where
+    past : carriedPast (o .raised) (d .receive) (l .queue) ≡ carried (o .raised) (d .shared) (d .receive) (l .queue)
+    past = sym (carried-past (o .raised) (d .receive) (l .queue) (d .shared) other)
 
-  pub taken-met : (s : TakenOut) → s ≡ Outbox.takenOf o → {n a : Device} {q : List ℕ} → n ≡ withSend d (s .send)
-      → NoteMet (carried (s .raised) (n .shared) (n .receive) (l .queue)) n a q → {r : Taken}
-      → r ≡ takes (s .number) (s .bytes) a → TakeMet (pick ok (carrying o d l) w) r q
-  taken-met s m e c a = rw z (record { answer = a ∙ rw (c .device, e, m); queue-bytes = c .queue-bytes ∙ rw (e, m) })
+    pub emptied-met : (s : Emptied) → s ≡ Outbox.emptiedOf o → {r : Answer} {q : List ℕ}
+        → EmptiedMet d s (carriedPast (s .raised) (d .receive) (l .queue)) r q → QueueMet (pick ok (carrying o d l) w) r q
+    emptied-met s m a =
+        rw z (record { answer = a .answer ∙ rw (m, past); queue-bytes = a .queue-bytes ∙ rw (m, past) })
+
+    pub taken-met : (s : TakenOut) → s ≡ Outbox.takenOf o → {a : Device} {q : List ℕ}
+        → a ≡ withReceive (withSend d (s .send)) (carriedPast (s .raised) (d .receive) (l .queue) .receive)
+        → q ≡ carriedPast (s .raised) (d .receive) (l .queue) .table
+        → TakeMet (pick ok (carrying o d l) w) (takes (s .number) (s .bytes) a) q
+    taken-met s m e t = rw z (record { answer = rw (e, m, past); queue-bytes = t ∙ rw (m, past) })
 
 -- an event that the outbox raises where a test holds is one raised beside the answer
 pub carries-as : (test : Bool) (code tick : ℕ) (m : Message) → eqb code 0 ≡ false

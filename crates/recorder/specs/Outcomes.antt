@@ -71,11 +71,6 @@ noted e o =
     let r : Raising = met e (o .device) (o .lent) in
     ends (o .number) (o .value) (o .bytes) (withReceive (o .device) (r .receive)) (withQueue (o .lent) (r .table))
 
--- what raising an event beside a call promises: the device and every byte of the event table
-pub record NoteMet (r : Raising) (d : Device) (n : Device) (queue : List ℕ) : Type 0 where
-  pub device : n ≡ withReceive d (r .receive)
-  pub queue-bytes : queue ≡ r .table
-
 -- the answer of an outcome, as the code returns it
 abbrev pub answers : ℕ → ℕ → Device → Answer
 answers n v d = record { number = n; value = v; device = d }

@@ -1,5 +1,6 @@
 -- Sending, taking, done and abort: 2 where the receive side is not possible, else what the outbox answers and leaves.
 use Prim.Native.Nat.{ℕ}
+use mathlib.Core.Path.{_≡_}
 use mathlib.Core.List.{List}
 use lib.ListN.{replicate}
 use lib.Dec.{eqb}
@@ -9,13 +10,15 @@ use Rattle.records.specs.Raised.{eventOf}
 use Rattle.records.specs.declared.Message.{Message}
 use Rattle.settings.specs.declared.Shared.{Shared}
 use Rattle.inbox.specs.Channel.{goodReceive, usable}
-use Rattle.inbox.specs.Calls.{Raising, raises, meets}
+use Rattle.inbox.specs.Calls.{Raising, raises, unfiltered, meets}
 use Rattle.inbox.specs.declared.Receive.{Receive}
 use Rattle.outbox.specs.Calls as Outbox
 use Rattle.outbox.specs.declared.Raised.{Raised}
+use Rattle.outbox.specs.declared.Emptied.{Emptied}
 use Rattle.recorder.specs.State.{withReceive, withSend}
-use Rattle.recorder.specs.Outcomes.{Lent, Outcome, ends, refuses, withQueue, withTable}
+use Rattle.recorder.specs.Outcomes.{Lent, Outcome, ends, refuses, withQueue, withTable, answers}
 use Rattle.recorder.specs.declared.Device.{Device}
+use Rattle.recorder.specs.declared.Answer.{Answer}
 
 -- what the outbox answers and leaves, on the device
 abbrev pub lifted : Outbox.Outcome → Device → Lent → Outcome
@@ -25,6 +28,16 @@ lifted o d l = ends (o .number) (o .value) (o .bytes) (withSend d (o .send)) (wi
 unfoldable pub carried : Raised → Shared → Receive → List ℕ → Raising
 carried e s r q =
     pick (eqb (e .code) 0) (raises 0 r q) (meets s r (eventOf (e .code) (e .tick) (e .message)) q)
+
+-- the same past the filter, which only code 1 meets
+unfoldable pub carriedPast : Raised → Receive → List ℕ → Raising
+carriedPast e r q =
+    pick (eqb (e .code) 0) (raises 0 r q) (unfiltered r (eventOf (e .code) (e .tick) (e .message)) q)
+
+-- what done and abort answer once the outbox has, and the event met g: the answer, and every byte of the event table
+pub record EmptiedMet (d : Device) (o : Emptied) (g : Raising) (r : Answer) (queue : List ℕ) : Type 0 where
+  pub answer : r ≡ answers (o .number) (o .value) (withReceive (withSend d (o .send)) (g .receive))
+  pub queue-bytes : queue ≡ g .table
 
 -- the same with the event carried to the queue: number, value and bytes stay
 abbrev pub carrying : Outbox.Outcome → Device → Lent → Outcome

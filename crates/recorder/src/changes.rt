@@ -18,9 +18,13 @@ fn change(d: Device, s: Shared, tick: u32, queue: &mut [u8]) -> Answer
     if !settings::ranges::is_shared(s) {
         return state::answer(1, 0, d);
     }
-    let e = records::raised::event_of(5, tick, records::messages::no_message());
-    let next = state::note(state::with_shared(d, s), e, queue);
-    state::answer(0, 0, next)
+    let receive = d.receive;
+    let met = inbox::raising::past_filter(receive, 5, tick, records::messages::no_message(), queue);
+    let after = state::with_receive(
+        state::with_shared(d, s),
+        inbox::raising::after_raise(receive, met),
+    );
+    state::answer(0, 0, after)
 }
 
 // Sets the mode.

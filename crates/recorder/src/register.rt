@@ -4,9 +4,40 @@ use crate::Answer;
 use crate::Device;
 use crate::Taken;
 use crate::state;
+use inbox::Receive;
+use outbox::Emptied;
+use outbox::Raised;
+ghost use mathlib.Core.Path.{_≡_};
+ghost use mathlib.Core.Bool.{true};
 ghost use mathlib.Core.List.{[]};
+ghost use Rattle.inbox.specs.Channel.{usable};
+ghost use Rattle.inbox.specs.Calls.{RaiseMet};
 ghost use Rattle.recorder.specs.Outcomes.{lends, QueueMet, TakeMet};
-ghost use Rattle.recorder.specs.Sending.{taken, finished, aborted};
+ghost use Rattle.recorder.specs.Sending.{carriedPast, EmptiedMet, taken, finished, aborted};
+
+// Carries the event that a call raised, if any (code 0 is none), past the filter, which only code 1 meets: answers its number.
+fn carry(r: Receive, e: Raised, queue: &mut [u8]) -> u32
+    requires { ⌜ usable r (now queue) ≡ true ⌝ }
+    ensures { λ n. ⌜ RaiseMet (carriedPast e r (now (queue .entry))) n (now (queue .exit)) ⌝ }
+{
+    if e.code == 0 {
+        return 0;
+    }
+    let m = e.message;
+    inbox::raising::past_filter(r, e.code, e.tick, m, queue)
+}
+
+// What done and abort answer, with the event carried to the queue.
+fn emptied(d: Device, o: Emptied, queue: &mut [u8]) -> Answer
+    requires { ⌜ usable (d .receive) (now queue) ≡ true ⌝ }
+    ensures { λ r. ⌜ EmptiedMet d o (carriedPast (o .raised) (d .receive) (now (queue .entry))) r (now (queue .exit)) ⌝ }
+{
+    let next = o.send;
+    let receive = d.receive;
+    let met = carry(receive, o.raised, queue);
+    let after = state::with_channels(d, inbox::raising::after_raise(receive, met), next);
+    state::answer(o.number, o.value, after)
+}
 
 // Moves the oldest message to the register.
 pub fn take(d: Device, tick: u32, send: &[u8], queue: &mut [u8]) -> Taken
@@ -23,18 +54,9 @@ pub fn take(d: Device, tick: u32, send: &[u8], queue: &mut [u8]) -> Taken
     let o = outbox::calls::take(d.shared, d.send, tick, send);
     let b = o.bytes;
     let next = o.send;
-    let moved = state::with_send(d, next);
-    let raised = o.raised;
-    if raised.code == 0 {
-        return Taken {
-            number: o.number,
-            bytes: b,
-            device: moved,
-        };
-    }
-    let m = raised.message;
-    let e = records::raised::event_of(raised.code, raised.tick, m);
-    let after = state::note(moved, e, queue);
+    let receive = d.receive;
+    let met = carry(receive, o.raised, queue);
+    let after = state::with_channels(d, inbox::raising::after_raise(receive, met), next);
     Taken {
         number: o.number,
         bytes: b,
@@ -50,15 +72,7 @@ pub fn done(d: Device, tick: u32, queue: &mut [u8]) -> Answer
         return state::answer(2, 0, d);
     }
     let o = outbox::calls::done(d.shared, d.send, tick);
-    let next = o.send;
-    let moved = state::with_send(d, next);
-    let raised = o.raised;
-    if raised.code == 0 {
-        return state::answer(o.number, o.value, moved);
-    }
-    let m = raised.message;
-    let e = records::raised::event_of(raised.code, raised.tick, m);
-    state::answer(o.number, o.value, state::note(moved, e, queue))
+    emptied(d, o, queue)
 }
 
 // Empties the register, aborting its message, and purges the buffer; answers how many were purged.
@@ -69,13 +83,5 @@ pub fn abort(d: Device, tick: u32, queue: &mut [u8]) -> Answer
         return state::answer(2, 0, d);
     }
     let o = outbox::calls::abort(d.shared, d.send, tick);
-    let next = o.send;
-    let moved = state::with_send(d, next);
-    let raised = o.raised;
-    if raised.code == 0 {
-        return state::answer(o.number, o.value, moved);
-    }
-    let m = raised.message;
-    let e = records::raised::event_of(raised.code, raised.tick, m);
-    state::answer(o.number, o.value, state::note(moved, e, queue))
+    emptied(d, o, queue)
 }

@@ -3,15 +3,12 @@ use crate::Answer;
 use crate::Device;
 use inbox::Receive;
 use outbox::Send;
-use records::Event;
 use settings::Shared;
 ghost use mathlib.Core.Path.{_≡_};
-ghost use mathlib.Core.Bool.{true, _&&_};
-ghost use Rattle.records.specs.Events.{codeOf};
-ghost use Rattle.inbox.specs.Channel.{goodReceive, queueFits, usable};
-ghost use Rattle.inbox.specs.Calls.{meets};
+ghost use mathlib.Core.Bool.{_&&_};
+ghost use Rattle.inbox.specs.Channel.{goodReceive, queueFits};
 ghost use Rattle.recorder.specs.State.{good, withShared, withReceive, withSend};
-ghost use Rattle.recorder.specs.Outcomes.{answers, NoteMet};
+ghost use Rattle.recorder.specs.Outcomes.{answers};
 
 // Settings and state numbers that a device can have.
 pub fn is_good(d: Device) -> bool
@@ -87,6 +84,18 @@ pub fn with_send(d: Device, s: Send) -> Device
     }
 }
 
+// The device with both channels exchanged.
+pub fn with_channels(d: Device, r: Receive, s: Send) -> Device
+    ensures { λ n. ⌜ n ≡ withReceive (withSend d s) r ⌝ }
+{
+    let shared = d.shared;
+    Device {
+        shared: shared,
+        receive: r,
+        send: s,
+    }
+}
+
 // The answer of a call.
 pub fn answer(number: u32, value: usize, d: Device) -> Answer
     ensures { λ r. ⌜ r ≡ answers number value d ⌝ }
@@ -96,15 +105,4 @@ pub fn answer(number: u32, value: usize, d: Device) -> Answer
         value: value,
         device: d,
     }
-}
-
-// The device after an event that a call raises beside its answer, over a device and a table that were judged: only code 1 meets the filter.
-pub fn note(d: Device, e: Event, table: &mut [u8]) -> Device
-    requires { ⌜ (usable (d .receive) (now table) ≡ true) × (codeOf (e .kind) ≡ 1 → ⊥) ⌝ }
-    ensures { λ n. ⌜ NoteMet (meets (d .shared) (d .receive) e (now (table .entry))) d n (now (table .exit)) ⌝ }
-{
-    let receive = d.receive;
-    let met = inbox::raising::past_filter(receive, e, table);
-    let next = inbox::raising::after_raise(receive, met);
-    with_receive(d, next)
 }

@@ -3,3 +3,4 @@ pub mod Laws
 pub mod RoundTrip
 pub mod EventRoundTrip
 pub mod Examples
+pub mod OfCode

@@ -18,7 +18,14 @@ pub fn stored(m: Message) -> Message
 {
     let h = m.header;
     let b = m.bytes;
-    let kept = carried::keep_first(&b, ids::frame::carried_by(h));
+    if h.rtr == 1 {
+        let none = [0u8; 8];
+        return Message {
+            header: h,
+            bytes: none,
+        };
+    }
+    let kept = carried::keep_first(&b, h.dlc);
     Message {
         header: h,
         bytes: kept,

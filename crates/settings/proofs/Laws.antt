@@ -1,9 +1,10 @@
--- What each way through TxMode's test and through a binary message shows.
-use mathlib.Core.Path.{_≡_, refl, sym}
+-- What each way through the tests of TxMode and of the shared settings, and through a binary message, shows.
+use mathlib.Core.Path.{_≡_, refl, sym, ap}
 use mathlib.Core.Logic.{_⊎_, inl, inr, ⊎-elim}
-use mathlib.Core.Bool.{true, false}
-use Prim.Native.Nat.{ℕ, _≤_, _<_}
-use lib.Dec.{eqb}
+use mathlib.Core.Bool.{Bool, true, false, not, _&&_}
+use Prim.Native.Nat.{ℕ, zero, suc, _+_, _≤_, _<_}
+use native.Mathlib.Omega.{arith}
+use lib.Dec.{leb, eqb}
 use borrow.Author.Tests.{eqb-true, eq-eqb, ne-eqb, le-leb, lt-leb}
 use Rattle.common.proofs.Choices.{pick-is}
 use Rattle.ids.specs.Ids.{isFormat, rawOf}
@@ -13,6 +14,7 @@ use Rattle.ids.specs.declared.Id.the-variants.{Good, Bad}
 use Rattle.records.specs.Messages.{stored}
 use Rattle.records.specs.declared.Message.{Message}
 use Rattle.settings.specs.TxMode.{goodTx}
+use Rattle.settings.specs.Ranges.{goodShared}
 use Rattle.settings.specs.Binary.{sentFormat, binaryRefusal, sentMessage, notBrought, brought}
 use Rattle.settings.specs.declared.Shared.{Shared}
 use Rattle.settings.specs.declared.Brought.{Brought}
@@ -79,3 +81,30 @@ module _ (s : Shared) (m : Message) where
   pub brought-message : binaryRefusal s m ≡ 0 → brought s m .message ≡ sentMessage s m
   unfolding brought
   brought-message h = rw (eq-eqb _ 0 h)
+
+-- the code's test of the default format: mode 0 has the formats 0 and 1, mode 1 has 2 as well
+pub shared-tests : (s : Shared) → s .mode ≤ 1 → goodShared s ≡ (leb (s .format) (s .mode + 1) && leb (s .align) 3)
+unfolding goodShared modeTakes
+shared-tests s h = by (s .mode) h
+  where
+    by : (m : ℕ) → m ≤ 1
+        → (leb m 1 && leb (s .format) 2 && not (eqb m 0 && eqb (s .format) 2) && leb (s .align) 3)
+        ≡ (leb (s .format) (m + 1) && leb (s .align) 3)
+    by zero z = ap (λ (t : Bool). t && leb (s .align) 3) (formats (s .format))
+      where
+        formats : (f : ℕ) → (leb f 2 && not (eqb f 2)) ≡ leb f 1
+        formats zero = refl
+        formats (suc zero) = refl
+        formats (suc (suc zero)) = refl
+        formats (suc (suc (suc f))) = rw (lt-leb (suc (suc (suc f))) 2 (omega arith), lt-leb (suc (suc (suc f))) 1 (omega arith))
+    by (suc zero) z = ap (λ (t : Bool). t && leb (s .align) 3) (and-true (leb (s .format) 2))
+      where
+        and-true : (t : Bool) → (t && true) ≡ t
+        and-true true = refl
+        and-true false = refl
+    by (suc (suc m)) z = absurd (omega arith)
+
+-- out of range already by its mode
+pub shared-mode : (s : Shared) → 1 < s .mode → goodShared s ≡ false
+unfolding goodShared
+shared-mode s h = rw (lt-leb (s .mode) 1 h)

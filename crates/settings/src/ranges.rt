@@ -3,17 +3,14 @@ use crate::Shared;
 ghost use mathlib.Core.Path.{_≡_};
 ghost use Rattle.settings.specs.Ranges.{goodShared, formatOf};
 
-// Mode, format and Align in their ranges.
+// Mode, format and Align in their ranges: mode 0 has the formats 0 and 1, mode 1 has 2 as well.
 pub fn is_shared(s: Shared) -> bool
     ensures { λ ok. ⌜ ok ≡ goodShared s ⌝ }
 {
     if 1 < s.mode {
         return false;
     }
-    if 2 < s.format {
-        return false;
-    }
-    if !ids::acceptance::mode_takes(s.mode, s.format) {
+    if s.mode + 1 < s.format {
         return false;
     }
     s.align <= 3

@@ -7,25 +7,20 @@ use Rattle.ids.proofs.acceptance.id_passes.Tie as tie
 
 returns : tie.Need-returns
 unfolding idPasses
-returns c = simp (denied (c .before .is-filter .ensures) (c .if1 .taken))
-
-returns-2 : tie.Need-returns-2
-unfolding idPasses
-returns-2 c = simp (said (c .before .before .before .is-filter .ensures) (c .before .before .if1 .left), denied (c .before .is-format .ensures) (c .if2 .taken))
+returns c = rw (denied (c .before .has-column .ensures) (c .if1 .taken))
 
 field-meets-requires : tie.Need-field-meets-requires
 field-meets-requires c κs = filter-in-word _ _ _ _ (c .before .filter-low .ensures) (c .id-bits .ensures)
 
-returns-3 : tie.Need-returns-3
+returns-2 : tie.Need-returns-2
 unfolding idPasses
-returns-3 c =
+returns-2 c =
     let b = c .before .before .before in
     simp (
       c .field-meets .ensures,
       c .before .id-bits .ensures,
       c .before .before .filter-low .ensures,
-      said (b .before .before .before .is-filter .ensures) (b .before .before .if1 .left),
-      said (b .before .is-format .ensures) (b .if2 .left),
+      said (b .before .has-column .ensures) (b .if1 .left),
     )
 
 pub id-passes-spec : {M : Type 1} → statement M
@@ -35,8 +30,6 @@ id-passes-spec =
     (λ c κs. search needs)
     returns
     (λ c κs. search needs)
-    returns-2
-    (λ c κs. search needs)
     (λ c κs. search needs)
     field-meets-requires
-    returns-3)
+    returns-2)

@@ -1,13 +1,15 @@
-use mathlib.Core.Path.{refl}
-use denote.Ref.{now}
+use mathlib.Core.Path.{refl, ap, _∙_}
 use mathlib.Core.List.{[]}
+use denote.Ref.{now}
 use Rattle.common.proofs.Bools.{said, denied}
+use Rattle.inbox.specs.declared.Receive.{Receive}
+use Rattle.inbox.proofs.Laws.{room-for, built}
 use Rattle.outbox.specs.Calls as Outbox
 use Rattle.outbox.proofs.Laws.{take-raises}
+use Rattle.recorder.specs.State.{withReceive, withSend}
 use Rattle.recorder.specs.Outcomes.{lends}
 use Rattle.recorder.specs.Sending.{taken}
-use Rattle.recorder.proofs.Ready.{other-code}
-use Rattle.recorder.proofs.SendWays.{carries-none, carries-one, taken-met}
+use Rattle.recorder.proofs.SendWays.{carried-next, taken-met}
 use borrow.Author.Needs.{needs}
 use Rattle.recorder.proofs.register.take.Statement.{statement}
 use Rattle.recorder.proofs.register.take.Tie as tie
@@ -17,50 +19,27 @@ unfolding taken
 returns c =
     rw (denied (c .before .receive-ready .ensures) (c .if1 .taken)) (record { answer = refl; queue-bytes = refl })
 
+carry-requires : tie.Need-carry-requires
+carry-requires c κs = said (c .before .before .before .before .before .before .receive-ready .ensures) (c .before .before .before .before .before .if1 .left)
+
+after-raise-requires : tie.Need-after-raise-requires
+after-raise-requires c κs =
+    let a = c .before .before .before .before .before .before .before .before .before .before .before .before .args in
+    room-for (carried-next _ (a .d .receive) (now (a .queue))) (c .before .before .carry .ensures .number)
+
 returns-2 : tie.Need-returns-2
 unfolding taken
 returns-2 c =
-    let past = c .before .before .before .before .before .before in
-    let older = past .before .before .before .before .before in
-    let a = older .args in
-    let l = lends (now (a .queue)) (now (a .send)) [] in
+    let past = c .before .before .before .before .before .before .before .before .before in
+    let o = past .take .result in
     let ready = said (past .before .before .receive-ready .ensures) (past .before .if1 .left) in
-    let none = carries-none (past .take .result .raised) (c .before .before .before .with-send .result)
-    (now (a .queue)) (c .if2 .taken) in
-    taken-met (Outbox.taken (a .d .shared) (a .d .send) (a .tick) (now (a .send))) (a .d) l _ _ ready _
-    (past .take .ensures)
-    (c .before .before .before .with-send .ensures) none (refl)
-
-note-requires : tie.Need-note-requires
-note-requires c κs =
-    let past = c .before .before .before .before .before .before in
-    let older = past .before .before .before .before in
-    let start = older .before .before .before .before in
-    let a = start .args in
-    let r = past .before .before .before .take .result .raised in
-    let ready = said (older .before .receive-ready .ensures) (older .if1 .left) in
-    let other = take-raises (a .d .shared) (a .d .send) (a .tick) (now (a .send)) in (
-      rw (past .with-send .ensures) ready,
-      rw (c .before .event-of .ensures)
-          (other-code (r .code) (r .tick) (r .message) (rw (past .before .before .before .take .ensures) other)),
-    )
-
-returns-3 : tie.Need-returns-3
-unfolding taken
-returns-3 c =
-    let past = c .before .before .before .before in
-    let older = past .before .before .before .before .before in
-    let start = older .before .before .before .before in
-    let first = start .before .before .before .before in
-    let a = first .args in
+    let a = past .before .before .before .before .before .args in
     let l = lends (now (a .queue)) (now (a .send)) [] in
-    let ready = said (start .before .receive-ready .ensures) (start .if1 .left) in
-    let r = older .before .before .before .take .result .raised in
-    let one = carries-one r (older .with-send .result) (now (a .queue)) _ (past .before .before .if2 .left)
-    (past .event-of .ensures) (c .before .before .note .ensures) in
-    taken-met (Outbox.taken (a .d .shared) (a .d .send) (a .tick) (now (a .send))) (a .d) l _ _ ready _
-    (older .before .before .before .take .ensures)
-    (older .with-send .ensures) one (refl)
+    let met = c .before .before .before .before .carry .ensures in
+    let next = built (carried-next (o .raised) (a .d .receive) (now (a .queue))) (met .number) (c .before .after-raise .ensures) in
+    let after = c .with-channels .ensures ∙ ap (withReceive (withSend (a .d) (o .send))) next in
+    let other = take-raises (a .d .shared) (a .d .send) (a .tick) (now (a .send)) in
+    taken-met (Outbox.taken (a .d .shared) (a .d .send) (a .tick) (now (a .send))) (a .d) l _ _ ready other o (past .take .ensures) after (met .table)
 
 pub take-spec : {M : Type 1} → statement M
 take-spec =
@@ -69,9 +48,8 @@ take-spec =
     (λ c κs. search needs)
     returns
     (λ c κs. search needs)
+    carry-requires
+    after-raise-requires
     (λ c κs. search needs)
-    returns-2
-    (λ c κs. search needs)
-    note-requires
     (λ c. search needs)
-    returns-3)
+    returns-2)

@@ -1,0 +1,37 @@
+use mathlib.Core.Path.{ap, _∙_}
+use denote.Ref.{now}
+use Rattle.inbox.specs.declared.Receive.{Receive}
+use Rattle.inbox.proofs.Laws.{room-for, built}
+use Rattle.recorder.specs.State.{withReceive, withSend}
+use Rattle.recorder.specs.Outcomes.{answers}
+use Rattle.recorder.proofs.SendWays.{carried-next}
+use borrow.Author.Needs.{needs}
+use Rattle.recorder.proofs.register.emptied.Statement.{statement}
+use Rattle.recorder.proofs.register.emptied.Tie as tie
+
+after-raise-requires : tie.Need-after-raise-requires
+after-raise-requires c κs =
+    let a = c .before .before .before .before .before .before .before .args in
+    room-for (carried-next (a .o .raised) (a .d .receive) (now (a .queue))) (c .before .before .carry .ensures .number)
+
+returns : tie.Need-returns
+returns c =
+    let met = c .before .before .before .before .before .carry .ensures in
+    let a = c .before .before .before .before .before .before .before .before .before .before .args in
+    let next = built (carried-next (a .o .raised) (a .d .receive) (now (a .queue))) (met .number) (c .before .before .after-raise .ensures) in
+    let d = withSend (a .d) (a .o .send) in
+    record {
+      answer = c .answer .ensures ∙ ap (answers (a .o .number) (a .o .value)) (c .before .with-channels .ensures ∙ ap (withReceive d) next);
+      queue-bytes = met .table;
+    }
+
+pub emptied-spec : {M : Type 1} → statement M
+emptied-spec =
+    tie.close
+    (tie.spec
+    (λ c κs. search needs)
+    after-raise-requires
+    (λ c κs. search needs)
+    (λ c κs. search needs)
+    (λ c. search needs)
+    returns)
