@@ -5,8 +5,6 @@ use mathlib.Core.List.{List, []}
 use Prim.Native.Nat.{ℕ}
 use lib.Dec.{eqb}
 use Rattle.common.specs.Choice.{pick}
-use Rattle.common.proofs.Bools.{apart}
-use Rattle.common.proofs.Choices.{pick-is}
 use Rattle.records.specs.declared.Message.{Message}
 use Rattle.settings.specs.Ranges.{goodShared}
 use Rattle.settings.specs.declared.Shared.{Shared}
@@ -16,9 +14,10 @@ use Rattle.inbox.specs.Calls as Inbox
 use Rattle.outbox.specs.Channel.{goodSend}
 use Rattle.outbox.specs.Refusals.{doneRefusal, abortRefusal}
 use Rattle.outbox.specs.Calls as Outbox
-use Rattle.recorder.specs.State.{good, withReceive}
+use Rattle.recorder.specs.State.{good}
 use Rattle.recorder.specs.Outcomes.{Lent, Outcome, refuses, queueReady, noted}
-use Rattle.recorder.specs.Receiving.{lifted, received, changed, filterSet, eventMaskSet, raised, recordRead, textRead, lookSaid, through}
+use Rattle.recorder.specs.Receiving.{lifted, received, changed, filterSet, eventMaskSet}
+use Rattle.recorder.specs.Receiving.{raised, recordRead, textRead, lookSaid, through}
 use Rattle.recorder.specs.Sending.{carrying, sent, textSent, taken, finished, aborted}
 use Rattle.recorder.specs.Printing.{linePrinted}
 use Rattle.recorder.specs.declared.Device.{Device}
@@ -27,7 +26,7 @@ use Rattle.model.specs.Outbox.{send, sendText, take, done, abort}
 use Rattle.model.specs.Box.{raise, setMode, setFormat, printMessageRecord, printEventRecord, printMessage}
 use Rattle.model.specs.Box.{Call, onDevice, onReceive, onSend, onAlign}
 use Rattle.promises.specs.Calls.{outcome}
-use Rattle.board.specs.Runs.{Borrows, borrows, borrowed, lentTo, whole}
+use Rattle.board.specs.Board.{Borrows, borrows, borrowed, lentTo, whole}
 
 -- a choice, each of whose ways is blind
 both : (f : Outcome → Outcome) (c : Bool) {a b u v : Outcome} → f a ≡ u → f b ≡ v → f (pick c a b) ≡ pick c u v
@@ -47,7 +46,7 @@ module _ (d : Device) (l : Lent) where
 
   -- lent the event table
   abbrev onQueue : Borrows
-  onQueue = borrows true true false false
+  onQueue = borrows true false false
 
   abbrev Q : Outcome → Outcome
   Q o = whole onQueue l o
@@ -72,8 +71,8 @@ module _ (d : Device) (l : Lent) where
   record-blind : Blind onQueue (recordRead d)
   unfolding recordRead Inbox.recordRead
   record-blind =
-      both Q (goodSend (d .send)) (either onQueue (eqb (recordRefusal (d .shared) (d .receive) (l .queue)) 0) _ _ refl refl)
-      refl
+      let n = recordRefusal (d .shared) (d .receive) (l .queue) in
+      both Q (goodSend (d .send)) (either onQueue (eqb n 0) _ _ refl refl) refl
 
   -- the register is emptied, or not: the message table stays
   emptied-blind : (n : ℕ) (effect : List ℕ → Outbox.Outcome) → ((t : List ℕ) → effect t ≡ onTableOf (effect []) t)
@@ -103,20 +102,20 @@ module _ (d : Device) (l : Lent) where
   -- ---- and the output buffer, or the message table
 
   -- a read as text: the event table and the buffer
-  text-blind : Blind (borrows true true false true) (textRead d)
+  text-blind : Blind (borrows true false true) (textRead d)
   unfolding textRead
-  text-blind = both (λ o. whole (borrows true true false true) l o) (goodSend (d .send)) refl refl
+  text-blind = both (λ o. whole (borrows true false true) l o) (goodSend (d .send)) refl refl
 
   -- take: both tables
-  take-blind : (tick : ℕ) → Blind (borrows true true true false) (taken tick d)
+  take-blind : (tick : ℕ) → Blind (borrows true true false) (taken tick d)
   unfolding taken
-  take-blind tick = both (λ o. whole (borrows true true true false) l o) (usable (d .receive) (l .queue)) refl refl
+  take-blind tick = both (λ o. whole (borrows true true false) l o) (usable (d .receive) (l .queue)) refl refl
 
   -- ---- the calls that see the message table
 
   -- lent the message table
   abbrev onTable : Borrows
-  onTable = borrows true false true false
+  onTable = borrows false true false
 
   abbrev S : Outcome → Outcome
   S o = whole onTable l o
@@ -134,10 +133,10 @@ module _ (d : Device) (l : Lent) where
   -- ---- the calls that see the output buffer, or nothing lent
 
   -- a line is printed: the buffer
-  print-blind : (n : ℕ) (line : List ℕ) → Blind (borrows false false false true) (linePrinted n line d)
+  print-blind : (n : ℕ) (line : List ℕ) → Blind (borrows false false true) (linePrinted n line d)
   unfolding linePrinted
   print-blind n line =
-      let f : Outcome → Outcome = λ o. whole (borrows false false false true) l o in
+      let f : Outcome → Outcome = λ o. whole (borrows false false true) l o in
       both f (good d) (both f (eqb n 0) refl refl) refl
 
   -- a call on the receive channel that is lent nothing, or not refused
@@ -146,22 +145,22 @@ module _ (d : Device) (l : Lent) where
   unlent v c a b x y z = both (λ o. whole v l o) (goodSend (d .send)) (either v c a b x y) z
 
   -- a change of the filter
-  filter-blind : (code mask : ℕ) → Blind (borrows true false false false) (filterSet code mask d)
+  filter-blind : (code mask : ℕ) → Blind (borrows false false false) (filterSet code mask d)
   unfolding filterSet Inbox.filterSet
   filter-blind code mask =
-      unlent (borrows true false false false) (eqb (filterRefusal (d .shared) (d .receive)) 0) _ _ refl refl refl
+      unlent (borrows false false false) (eqb (filterRefusal (d .shared) (d .receive)) 0) _ _ refl refl refl
 
   -- a change of the event mask
-  mask-blind : (mask : ℕ) → Blind (borrows true false false false) (eventMaskSet mask d)
+  mask-blind : (mask : ℕ) → Blind (borrows false false false) (eventMaskSet mask d)
   unfolding eventMaskSet Inbox.eventMaskSet
   mask-blind mask =
-      unlent (borrows true false false false) (eqb (maskRefusal (d .shared) (d .receive) mask) 0) _ _ refl refl refl
+      unlent (borrows false false false) (eqb (maskRefusal (d .shared) (d .receive) mask) 0) _ _ refl refl refl
 
   -- the identifiers let through
-  through-blind : (format : ℕ) → Blind (borrows false false false false) (through format d)
+  through-blind : (format : ℕ) → Blind (borrows false false false) (through format d)
   unfolding through Inbox.through
   through-blind format =
-      unlent (borrows false false false false) (eqb (throughRefusal (d .shared) (d .receive) format) 0) _ _ refl refl refl
+      unlent (borrows false false false) (eqb (throughRefusal (d .shared) (d .receive) format) 0) _ _ refl refl refl
 
 -- THEOREM. A call sees nothing of what it is not lent, and leaves it
 pub blind : (x : Call) (d : Device) (l : Lent)
@@ -184,35 +183,3 @@ blind (onSend (abort tick)) d l = abort-blind d l tick
 blind (onAlign (printMessageRecord s)) d l = print-blind d l _ _
 blind (onAlign (printEventRecord s)) d l = print-blind d l _ _
 blind (onAlign (printMessage m)) d l = print-blind d l _ _
-
--- ---- the state that a call only reads
-
--- a line that is printed leaves the device
-print-still : (n : ℕ) (line : List ℕ) (d : Device) (l : Lent) → d ≡ linePrinted n line d l .device
-unfolding linePrinted
-print-still n line d l =
-    let Same : Outcome → Type 0 = λ o. d ≡ o .device in
-    pick-is Same (good d) (λ e. pick-is Same (eqb n 0) (λ f. refl) (λ f. refl)) (λ e. refl)
-
--- THEOREM. A call that only reads the state leaves the device
-pub reads-only : (x : Call) (d : Device) (l : Lent) → borrowed x .writes ≡ false → d ≡ outcome x d l .device
-unfolding borrowed outcome through Inbox.through
-reads-only (onDevice x) d l h = absurd (apart h)
-reads-only (onReceive readRecord) d l h = absurd (apart h)
-reads-only (onReceive readText) d l h = absurd (apart h)
-reads-only (onReceive (look p)) d l h = refl
-reads-only (onReceive (setFilter code mask)) d l h = absurd (apart h)
-reads-only (onReceive (setEventMask mask)) d l h = absurd (apart h)
-reads-only (onReceive (identifiersThrough format)) d l h =
-    pick-is (λ (o : Outcome). d ≡ o .device) (goodSend (d .send))
-    (λ e. pick-is (λ (o : Inbox.Outcome). d ≡ withReceive d (o .receive))
-    (eqb (throughRefusal (d .shared) (d .receive) format) 0) (λ f. refl) (λ f. refl))
-    (λ e. refl)
-reads-only (onSend (send m)) d l h = absurd (apart h)
-reads-only (onSend (sendText text)) d l h = absurd (apart h)
-reads-only (onSend (take tick)) d l h = absurd (apart h)
-reads-only (onSend (done tick)) d l h = absurd (apart h)
-reads-only (onSend (abort tick)) d l h = absurd (apart h)
-reads-only (onAlign (printMessageRecord s)) d l h = print-still _ _ d l
-reads-only (onAlign (printEventRecord s)) d l h = print-still _ _ d l
-reads-only (onAlign (printMessage m)) d l h = print-still _ _ d l

@@ -40,11 +40,11 @@ use Rattle.promises.proofs.Harmless.{harmless}
 use Rattle.promises.proofs.Opening.{is-opened, opens}
 use Rattle.promises.proofs.Answers.{next-stands, answers}
 use Rattle.promises.proofs.Carried.{sum-of-bytes, larger-queue}
-use Rattle.kept.specs.State.{stateSize, stateBytes, word, deviceIn, isState}
+use Rattle.kept.specs.State.{stateSize, receiveAt, stateBytes, word, deviceIn, isState}
 use Rattle.kept.specs.Handing.{left}
-use Rattle.board.specs.Board.{on, openedOn, lookNumberOn}
-use Rattle.board.specs.Runs.{borrowed, called, BoardRun, asRun, calledNext, next, run, started, Answered}
-use Rattle.board.proofs.Blind.{blind, reads-only}
+use Rattle.board.specs.Board.{borrowed, on, called, settingsSize, settingsIn, openedOn}
+use Rattle.board.specs.Runs.{BoardRun, asRun, calledNext, next, run, started, Answered}
+use Rattle.board.proofs.Blind.{blind}
 use Rattle.board.proofs.Words.{stands-back}
 
 -- ---- one call
@@ -52,14 +52,11 @@ use Rattle.board.proofs.Words.{stands-back}
 -- what stands in the state after a call are the bytes of the device that the call leaves
 state-after : (x : Call) (d : Device) (l : Lent)
     → let o : Outcome = outcome x d l in
-    pick (borrowed x .writes) (left (o .number) (stateBytes d) (stateBytes (o .device))) (stateBytes d)
-    ≡ stateBytes (o .device)
+    left (o .number) (stateBytes d) (stateBytes (o .device)) ≡ stateBytes (o .device)
 state-after x d l =
     let o : Outcome = outcome x d l in
-    let Bytes : List ℕ → Type 0 = λ b. b ≡ stateBytes (o .device) in
-    pick-is Bytes (borrowed x .writes)
-    (λ w. pick-is Bytes (isRefusal (o .number)) (λ e. ap stateBytes (sym (harmless x d l .device-kept e))) (λ e. refl))
-    (λ w. ap stateBytes (reads-only x d l w))
+    pick-is (λ (b : List ℕ). b ≡ stateBytes (o .device)) (isRefusal (o .number))
+    (λ e. ap stateBytes (sym (harmless x d l .device-kept e))) (λ e. refl)
 
 -- a run with its device kept in bytes
 abbrev kept : Run → BoardRun
@@ -108,118 +105,126 @@ says-from (x ∷ xs) r b h (a ∷ rest) w =
 
 -- ---- from an sv_open that answers 0
 
-module _ (given : Settings) (s : List ℕ) (l : Lent) (ty : TypedSettings given)
-    (e : openedOn given s l .number ≡ 0) where
-  -- it is the recorder's opening
-  same-opening : openedOn given s l ≡ opened given l
-  unfolding openedOn
-  same-opening =
-      let Same : Outcome → Type 0 = λ o. o .number ≡ 0 → o ≡ opened given l in
-      pick-is Same (eqb (opened given l .number) 0)
-      (λ z. pick-is Same (eqb (length s) stateSize) (λ y x. refl) (λ y x. absurd (omega (arith, x))))
-      (λ z x. refl) e
+-- ten settings, and it is the recorder's opening
+same-opening : (given s : List ℕ) (l : Lent) → openedOn given s l .number ≡ 0
+    → openedOn given s l ≡ opened (settingsIn given) l
+unfolding openedOn
+same-opening given s l =
+    let o : Outcome = opened (settingsIn given) l in
+    let Same : Outcome → Type 0 = λ p. p .number ≡ 0 → p ≡ o in
+    pick-is Same (eqb (length given) settingsSize)
+    (λ w. pick-is Same (eqb (o .number) 0)
+    (λ z. pick-is Same (eqb (length s) stateSize) (λ y x. refl) (λ y x. absurd (omega (arith, x))))
+    (λ z x. refl))
+    (λ w x. absurd (omega (arith, x)))
 
+module _ (given s : List ℕ) (l : Lent) (e : openedOn given s l .number ≡ 0) where
   -- which answers 0
-  opens-0 : opened given l .number ≡ 0
-  opens-0 = sym (ap (λ (o : Outcome). o .number) same-opening) ∙ e
-
-  -- and stands for the fresh box
-  stands : RunStands (Promises.started given l) (fresh given)
-  stands = opens given l ty opens-0
+  opens-0 : opened (settingsIn given) l .number ≡ 0
+  opens-0 = sym (ap (λ (o : Outcome). o .number) (same-opening given s l e)) ∙ e
 
   -- it leaves the bytes of the recorder's device, and the tables
-  started-is : started given s l ≡ kept (Promises.started given l)
+  started-is : started given s l ≡ kept (Promises.started (settingsIn given) l)
   unfolding isRefusal
-  started-is =
-      let o : Outcome = openedOn given s l in
-      let d : Device = opened given l .device in
-      let bytes : left (o .number) s (stateBytes (o .device)) ≡ stateBytes d = rw (e, same-opening) in
-      let shown = is-opened given l opens-0 .is-open in
-      let tables : l ≡ opened given l .lent = ap (λ (o : Outcome). o .lent) (sym shown) in
-      λ i. record { state = bytes i; queue = tables i .queue; send = tables i .send; index = 0; read = [] }
+  started-is = rw (same-opening given s l e, opens-0)
 
-  -- so every run from there on is kept
-  kept-run : (xs : List Made) → run xs (started given s l) ≡ kept (Promises.run xs (Promises.started given l))
-  kept-run xs = ap (run xs) started-is ∙ runs-from xs (Promises.started given l) (fresh given) stands
+  module _ (ty : TypedSettings (settingsIn given)) where
+    -- it stands for the fresh box
+    stands : RunStands (Promises.started (settingsIn given) l) (fresh (settingsIn given))
+    stands = opens (settingsIn given) l ty opens-0
+
+    -- so every run from there on is kept
+    kept-run : (xs : List Made)
+        → run xs (started given s l) ≡ kept (Promises.run xs (Promises.started (settingsIn given) l))
+    kept-run xs =
+        let g = settingsIn given in
+        ap (run xs) started-is ∙ runs-from xs (Promises.started g l) (fresh g) stands
 
 -- THEOREM. After any calls from an sv_open that answers 0 the state is the bytes of the device of the promises' run
-pub board-state : (given : Settings) (s : List ℕ) (l : Lent) (xs : List Made) → TypedSettings given
+pub board-state : (given s : List ℕ) (l : Lent) (xs : List Made) → TypedSettings (settingsIn given)
     → openedOn given s l .number ≡ 0
-    → run xs (started given s l) .state ≡ stateBytes (Promises.run xs (Promises.started given l) .device)
-board-state given s l xs ty e = ap (λ (r : BoardRun). r .state) (kept-run given s l ty e xs)
+    → run xs (started given s l) .state ≡ stateBytes (Promises.run xs (Promises.started (settingsIn given) l) .device)
+board-state given s l xs ty e = ap (λ (r : BoardRun). r .state) (kept-run given s l e ty xs)
 
 -- THEOREM. The run over the state bytes is then the promises' run: device, tables, index, bytes of all events read
-pub board-runs : (given : Settings) (s : List ℕ) (l : Lent) (xs : List Made) → TypedSettings given
+pub board-runs : (given s : List ℕ) (l : Lent) (xs : List Made) → TypedSettings (settingsIn given)
     → openedOn given s l .number ≡ 0
-    → asRun (run xs (started given s l)) ≡ Promises.run xs (Promises.started given l)
+    → asRun (run xs (started given s l)) ≡ Promises.run xs (Promises.started (settingsIn given) l)
 board-runs given s l xs ty e =
-    let r = Promises.run xs (Promises.started given l) in
-    let h = answers given l xs ty (opens-0 given s l ty e) .1 in
-    let b = Model.run 0 (map asked xs) (fresh given) in
-    ap (λ (r : BoardRun). asRun r) (kept-run given s l ty e xs) ∙ kept-back r b h
+    let g = settingsIn given in
+    let r = Promises.run xs (Promises.started g l) in
+    let h = answers g l xs ty (opens-0 given s l e) .1 in
+    let b = Model.run 0 (map asked xs) (fresh g) in
+    ap (λ (r : BoardRun). asRun r) (kept-run given s l e ty xs) ∙ kept-back r b h
 
 -- THEOREM, demand 2. Every answer and every output buffer of such a run is the model's
-pub board-answers : (given : Settings) (s : List ℕ) (l : Lent) (xs : List Made) → TypedSettings given
+pub board-answers : (given s : List ℕ) (l : Lent) (xs : List Made) → TypedSettings (settingsIn given)
     → openedOn given s l .number ≡ 0
-    → Answered xs (started given s l) (Model.answers 0 (map asked xs) (fresh given))
+    → Answered xs (started given s l) (Model.answers 0 (map asked xs) (fresh (settingsIn given)))
 board-answers given s l xs ty e =
-    let said = Model.answers 0 (map asked xs) (fresh given) in
-    let w = answers given l xs ty (opens-0 given s l ty e) .0 in
-    subst (λ (r : BoardRun). Answered xs r said) (sym (started-is given s l ty e))
-    (says-from xs (Promises.started given l) (fresh given) (stands given s l ty e) said w)
+    let g = settingsIn given in
+    let said = Model.answers 0 (map asked xs) (fresh g) in
+    let w = answers g l xs ty (opens-0 given s l e) .0 in
+    subst (λ (r : BoardRun). Answered xs r said) (sym (started-is given s l e))
+    (says-from xs (Promises.started g l) (fresh g) (stands given s l e ty) said w)
 
 -- THEOREM, demand 2. Up to 4,294,967,295 events past filter and mask: events read + events queued + the lost counts in
--- the bytes of both + the pending count, word 10 of the state = those events
-pub board-sum : (given : Settings) (s : List ℕ) (l : Lent) (xs : List Made) → TypedSettings given
+-- the bytes of both + the pending count, bytes 40..43 of the state = those events
+pub board-sum : (given s : List ℕ) (l : Lent) (xs : List Made) → TypedSettings (settingsIn given)
     → openedOn given s l .number ≡ 0
     → let r : BoardRun = run xs (started given s l) in
-    let b : Inbox = Model.run 0 (map asked xs) (fresh given) .inbox in
+    let b : Inbox = Model.run 0 (map asked xs) (fresh (settingsIn given)) .inbox in
     length (b .arrived) ≤ 4294967295
     → length (r .read) + length (queuedEvents (asRun r))
-    + (lostBytes (r .read) + lostBytes (queuedEvents (asRun r)) + word (r .state) 10)
+    + (lostBytes (r .read) + lostBytes (queuedEvents (asRun r)) + word (r .state) (receiveAt + 28))
     ≡ length (b .arrived)
 unfolding deviceIn
 board-sum given s l xs ty e bound =
-    let n = length (Model.run 0 (map asked xs) (fresh given) .inbox .arrived) in
+    let n = length (Model.run 0 (map asked xs) (fresh (settingsIn given)) .inbox .arrived) in
     subst
     (λ (r : Run).
     length (r .read) + length (queuedEvents r)
     + (lostBytes (r .read) + lostBytes (queuedEvents r) + r .device .receive .pending)
     ≡ n)
-    (sym (board-runs given s l xs ty e)) (sum-of-bytes given l xs ty (opens-0 given s l ty e) bound)
+    (sym (board-runs given s l xs ty e)) (sum-of-bytes (settingsIn given) l xs ty (opens-0 given s l e) bound)
 
--- THEOREM, demand 3. Two boards opened with the same settings but for c and d event places, c ≤ d, each over its own
--- state bytes and tables of any bytes, given the same calls: what the smaller has recorded, place by place and byte by
--- byte apart from lost counts, the larger has, in the same order
-pub board-larger : (given : Settings) (c d : ℕ) (s t : List ℕ) (l m : Lent) (xs : List Made) → c ≤ d
-    → TypedSettings given
-    → openedOn (withPlaces given c) s l .number ≡ 0 → openedOn (withPlaces given d) t m .number ≡ 0
-    → let small : Inbox = Model.run 0 (map asked xs) (fresh (withPlaces given c)) .inbox in
-    let large : Inbox = Model.run 0 (map asked xs) (fresh (withPlaces given d)) .inbox in
-    Sublist (entries (recorded small) (recordedBytes (asRun (run xs (started (withPlaces given c) s l)))))
-    (entries (recorded large) (recordedBytes (asRun (run xs (started (withPlaces given d) t m)))))
-board-larger given c d s t l m xs le ty e g =
-    let f = withPlaces given c in
-    let h = withPlaces given d in
-    let small = recorded (Model.run 0 (map asked xs) (fresh f) .inbox) in
-    let large = recorded (Model.run 0 (map asked xs) (fresh h) .inbox) in
-    let typed : (n : ℕ) → TypedSettings (withPlaces given n) = λ n. record { code = ty .code; mask = ty .mask } in
-    subst₂ (λ (p r : Run). Sublist (entries small (recordedBytes p)) (entries large (recordedBytes r)))
-    (sym (board-runs f s l xs (typed c) e)) (sym (board-runs h t m xs (typed d) g))
-    (larger-queue given c d l m xs le ty (opens-0 f s l (typed c) e) (opens-0 h t m (typed d) g))
+-- what the smaller of two runs has recorded, place by place and byte by byte apart from lost counts, the larger has
+abbrev Within : List Made → Settings → Run → Settings → Run → Type 0
+Within xs f p g r =
+    Sublist (entries (recorded (Model.run 0 (map asked xs) (fresh f) .inbox)) (recordedBytes p))
+    (entries (recorded (Model.run 0 (map asked xs) (fresh g) .inbox)) (recordedBytes r))
+
+-- THEOREM, demand 3. Two boards opened with settings f and g, which are the same but for the event places, f's no more
+-- than g's, each over its own state bytes and tables of any bytes, given the same calls: what the smaller has recorded,
+-- place by place and byte by byte apart from lost counts, the larger has, in the same order
+pub board-larger : (f g s t : List ℕ) (l m : Lent) (xs : List Made) → settingsIn f .queue ≤ settingsIn g .queue
+    → settingsIn g ≡ withPlaces (settingsIn f) (settingsIn g .queue) → TypedSettings (settingsIn f)
+    → openedOn f s l .number ≡ 0 → openedOn g t m .number ≡ 0
+    → let small : Inbox = Model.run 0 (map asked xs) (fresh (settingsIn f)) .inbox in
+    let large : Inbox = Model.run 0 (map asked xs) (fresh (settingsIn g)) .inbox in
+    Sublist (entries (recorded small) (recordedBytes (asRun (run xs (started f s l)))))
+    (entries (recorded large) (recordedBytes (asRun (run xs (started g t m)))))
+board-larger f g s t l m xs le same ty e k =
+    let small = settingsIn f in
+    let large = settingsIn g in
+    let p = Promises.run xs (Promises.started small l) in
+    let typed : TypedSettings (withPlaces small (large .queue)) = record { code = ty .code; mask = ty .mask } in
+    subst₂ (λ (p r : Run). Within xs small p large r)
+    (sym (board-runs f s l xs ty e)) (sym (board-runs g t m xs (subst TypedSettings (sym same) typed) k))
+    (subst
+    (λ (h : Settings). opened h m .number ≡ 0 → Within xs small p h (Promises.run xs (Promises.started h m)))
+    (sym same) (larger-queue small (small .queue) (large .queue) l m xs le ty (opens-0 f s l e)) (opens-0 g t m k))
 
 -- ---- the look
 
--- THEOREM. What sv_look answers is the look: its number, and beside 0 the 32 bytes at its offset in the event table
-pub look-called : (p : ℕ) (s : List ℕ) (l : Lent)
-    → (called (onReceive (look p)) s l .number ≡ lookNumberOn p s (l .queue))
-    × (lookNumberOn p s (l .queue) ≡ 0
-    → called (onReceive (look p)) s l .bytes
-    ≡ take eventSize (drop (lookedAt (deviceIn s .receive) (l .queue) p) (l .queue)))
-unfolding called borrowed on outcome lookNumberOn lookSaid looked lookedAt slot good ready possible
-look-called p s l =
-    by-test (isState s) (λ x. rw x (refl, shown))
-    (λ x. rw x (refl, λ h. absurd (omega (arith, h))))
+-- THEOREM. Beside 0 what sv_look shows are the 32 bytes at its offset in the event table
+pub look-shows : (p : ℕ) (s : List ℕ) (l : Lent)
+    → let o : Outcome = called (onReceive (look p)) s l in
+    o .number ≡ 0 → o .bytes ≡ take eventSize (drop (lookedAt (deviceIn s .receive) (l .queue) p) (l .queue))
+unfolding called borrowed on outcome lookSaid looked lookedAt slot good ready possible
+look-shows p s l =
+    by-test (isState s) (λ x. rw x shown)
+    (λ x. rw x (λ h. absurd (omega (arith, h))))
   where
     d : Device
     d = deviceIn s

@@ -29,7 +29,8 @@ use Rattle.model.specs.Outbox.{Outbox}
 use Rattle.model.specs.Box.{Box}
 use Rattle.promises.specs.Typed.{Word}
 use Rattle.promises.specs.Stands.{All, Receives, Register, Sends, Stands}
-use Rattle.kept.specs.State.{rest, numbers, words, stateBytes, word, deviceIn, isState}
+use Rattle.kept.specs.State.{sharedNumbers, receiveNumbers, sendNumbers, numbers, words, stateBytes, word}
+use Rattle.kept.specs.State.{deviceIn, isState}
 use Rattle.kept.proofs.RoundTrip.{word-words, device-back}
 
 -- ---- lists of 32-bit numbers
@@ -47,11 +48,7 @@ words-below (n ∷ ns) h (suc k) = words-below ns (h .1) k
 
 -- ---- the parts of a device
 
--- the first three numbers
-abbrev sharedNumbers : Shared → List ℕ
-sharedNumbers s = s .mode ∷ s .format ∷ s .align ∷ []
-
--- in range
+-- shared settings in range
 shared-words : (s : Shared) → goodShared s ≡ true → All Word (sharedNumbers s)
 unfolding goodShared
 shared-words s h =
@@ -64,12 +61,6 @@ shared-words s h =
     let format = leb-true (s .format) 2 (and-right a b ab) in
     let align = leb-true (s .align) 3 (and-right (a && b && c) (leb (s .align) 3) h) in
     (omega arith, (omega arith, (omega arith, tt)))
-
--- the next eight
-abbrev receiveNumbers : Receive → List ℕ
-receiveNumbers r =
-    r .filter .active ∷ r .filter .code ∷ r .filter .mask ∷ r .events
-    ∷ r .ring .capacity ∷ r .ring .first ∷ r .ring .count ∷ r .pending ∷ []
 
 -- a receive channel that stands for an inbox
 receive-words : (r : Receive) (q : List ℕ) (b : Inbox) → Receives r q b → All Word (receiveNumbers r)
@@ -112,8 +103,8 @@ held-below : (b : Bool) → pick b 1 0 ≤ 1
 held-below true = omega arith
 held-below false = omega arith
 
--- a send channel that stands for an outbox: TxMode and the other eight
-send-words : (s : Send) (t : List ℕ) (o : Outbox) → Sends s t o → All Word (s .tx ∷ rest s)
+-- a send channel that stands for an outbox
+send-words : (s : Send) (t : List ℕ) (o : Outbox) → Sends s t o → All Word (sendNumbers s)
 send-words s t o h =
     let tx = tx-below (s .tx) (h .possible) in
     let ring = good-ring sendLimit (s .ring) (h .messages .numbers) in
@@ -126,10 +117,9 @@ send-words s t o h =
 -- all twenty numbers of a device that stands for a box have 32 bits
 device-words : (d : Device) (q t : List ℕ) (b : Box) → Stands d q t b → All Word (numbers d)
 device-words d q t b h =
-    let behind : List ℕ = d .send .tx ∷ rest (d .send) in
-    all-append Word (sharedNumbers (d .shared)) (receiveNumbers (d .receive) ++ behind)
+    all-append Word (sharedNumbers (d .shared)) (receiveNumbers (d .receive) ++ sendNumbers (d .send))
     (shared-words (d .shared) (h .possible))
-    (all-append Word (receiveNumbers (d .receive)) behind (receive-words (d .receive) q (b .inbox) (h .inbox))
+    (all-append Word (receiveNumbers (d .receive)) (sendNumbers (d .send)) (receive-words (d .receive) q (b .inbox) (h .inbox))
     (send-words (d .send) t (b .outbox) (h .outbox)))
 
 -- the bytes of such a device are a state

@@ -1,108 +1,117 @@
--- What each call over the bytes of a kept device answers and leaves: the recorder's own outcomes.
+-- What each sv_ call over the bytes of a kept device answers and leaves.
 use Prim.Native.Nat.{ℕ}
 use mathlib.Core.Path.{_≡_}
+use mathlib.Core.Bool.{Bool, true, false}
 use mathlib.Core.List.{List, []}
-use lib.ListN.{length}
+use lib.ListN.{length, getD}
 use lib.Dec.{eqb}
 use Rattle.common.specs.Choice.{pick}
 use Rattle.settings.specs.declared.Settings.{Settings}
-use Rattle.inbox.specs.Calls.{lookedAt}
 use Rattle.recorder.specs.State.{noDevice}
-use Rattle.recorder.specs.Outcomes.{Lent, Outcome, lends, refuses}
-use Rattle.recorder.specs.Receiving.{opened, lookSaid}
+use Rattle.recorder.specs.Outcomes.{Lent, Outcome, lends, ends, refuses}
+use Rattle.recorder.specs.Receiving.{opened}
 use Rattle.recorder.specs.declared.Device.{Device}
+use Rattle.model.specs.Inbox.{ReceiveCall, readRecord, readText, look, setFilter, setEventMask, identifiersThrough}
+use Rattle.model.specs.Outbox.{SendCall, send, sendText, take, done, abort}
+use Rattle.model.specs.Box.{Call, onDevice, onReceive, onSend, onAlign}
+use Rattle.promises.specs.Calls.{outcome}
 use Rattle.kept.specs.State.{stateSize, stateBytes, deviceIn, isState}
 use Rattle.kept.specs.Handing.{left}
+
+-- what an sv_ call is lent beside the state: the event table, the message table, the output buffer
+pub record Borrows : Type 0 where
+  pub queue : Bool
+  pub send : Bool
+  pub out : Bool
+
+-- the three, in that order
+abbrev pub borrows : Bool → Bool → Bool → Borrows
+borrows q t o = record { queue = q; send = t; out = o }
+
+-- what a call on the receive channel is lent
+abbrev pub receiveBorrows : ReceiveCall → Borrows
+receiveBorrows readRecord = borrows true false false
+receiveBorrows readText = borrows true false true
+receiveBorrows (look p) = borrows true false false
+receiveBorrows (setFilter code mask) = borrows false false false
+receiveBorrows (setEventMask mask) = borrows false false false
+receiveBorrows (identifiersThrough format) = borrows false false false
+
+-- what a call on the send channel is lent
+abbrev pub sendBorrows : SendCall → Borrows
+sendBorrows (send m) = borrows false true false
+sendBorrows (sendText text) = borrows false true false
+sendBorrows (take tick) = borrows true true false
+sendBorrows (done tick) = borrows true false false
+sendBorrows (abort tick) = borrows true false false
+
+-- what any call is lent
+unfoldable pub borrowed : Call → Borrows
+borrowed (onDevice x) = borrows true false false
+borrowed (onReceive x) = receiveBorrows x
+borrowed (onSend x) = sendBorrows x
+borrowed (onAlign x) = borrows false false true
+
+-- a call sees no byte of what it is not lent
+abbrev pub lentTo : Borrows → Lent → Lent
+lentTo v l = lends (pick (v .queue) (l .queue) []) (pick (v .send) (l .send) []) (pick (v .out) (l .out) [])
+
+-- and what it is not lent stays
+abbrev pub handsBack : Borrows → Lent → Lent → Lent
+handsBack v l m =
+    lends (pick (v .queue) (m .queue) (l .queue)) (pick (v .send) (m .send) (l .send)) (pick (v .out) (m .out) (l .out))
+
+-- an outcome, with what the call was not lent
+abbrev pub whole : Borrows → Lent → Outcome → Outcome
+whole v l o = ends (o .number) (o .value) (o .bytes) (o .device) (handsBack v l (o .lent))
 
 -- a call on the device that the state stands for: the recorder's outcome, or 2 for bytes that are no state
 unfoldable pub on : (Device → Lent → Outcome) → List ℕ → Lent → Outcome
 on call s l = pick (isState s) (call (deviceIn s) l) (refuses 2 noDevice l)
 
--- opening: the recorder's outcome, and 2 where it would open a device that the state's bytes cannot keep
-unfoldable pub openedOn : Settings → List ℕ → Lent → Outcome
-openedOn given s l =
-    pick (eqb (opened given l .number) 0)
-    (pick (eqb (length s) stateSize) (opened given l) (refuses 2 noDevice l))
-    (opened given l)
+-- what the sv_ call of the model's call x answers and leaves over the state bytes s
+unfoldable pub called : Call → List ℕ → Lent → Outcome
+called x s l = whole (borrowed x) l (on (outcome x) s (lentTo (borrowed x) l))
 
--- settings as opening is given them
-abbrev pub settings : ℕ → ℕ → ℕ → ℕ → ℕ → ℕ → ℕ → ℕ → ℕ → ℕ → Settings
-settings mode format align active code mask events slots tx places = record {
-  mode = mode;
-  format = format;
-  align = align;
-  active = active;
-  code = code;
-  mask = mask;
-  events = events;
-  queue = slots;
-  tx = tx;
-  buffer = places;
+-- how many numbers the settings are
+abbrev pub settingsSize : ℕ
+settingsSize = 10
+
+-- the settings that those numbers stand for, in their order
+abbrev pub settingsIn : List ℕ → Settings
+settingsIn given = record {
+  mode = getD given 0 0;
+  format = getD given 1 0;
+  align = getD given 2 0;
+  active = getD given 3 0;
+  code = getD given 4 0;
+  mask = getD given 5 0;
+  events = getD given 6 0;
+  queue = getD given 7 0;
+  tx = getD given 8 0;
+  buffer = getD given 9 0;
 }
 
--- what every call promises that can change the state s: its number, and every byte of the state
-pub record Called (o : Outcome) (s : List ℕ) (n : ℕ) (state : List ℕ) : Type 0 where
+-- opening: 1 where a setting is missing or too many are given, else the recorder's outcome, and 2 where it would open
+-- a device that the state's bytes cannot keep
+unfoldable pub openedOn : List ℕ → List ℕ → Lent → Outcome
+openedOn given s l =
+    let o : Outcome = opened (settingsIn given) l in
+    pick (eqb (length given) settingsSize)
+    (pick (eqb (o .number) 0) (pick (eqb (length s) stateSize) o (refuses 2 noDevice l)) o)
+    (refuses 1 noDevice l)
+
+-- what every call promises over the state s: its number, every byte of the state, every byte that it was lent
+pub record Called (o : Outcome) (s : List ℕ) (n : ℕ) (state : List ℕ) (lent : Lent) : Type 0 where
   pub number : n ≡ o .number
   pub state-bytes : state ≡ left (o .number) s (stateBytes (o .device))
+  pub lent-bytes : lent ≡ o .lent
 
--- raise, set_mode, set_format, done: and every byte of the event table
-pub record QueueCalled (o : Outcome) (s : List ℕ) (n : ℕ) (state queue : List ℕ) : Type 0 where
-  pub called : Called o s n state
-  pub queue-bytes : queue ≡ o .lent .queue
-
--- abort: and how many were purged
-pub record AbortCalled (o : Outcome) (s : List ℕ) (was : ℕ) (n : ℕ) (state queue : List ℕ) (purged : ℕ) : Type 0 where
-  pub called : Called o s n state
-  pub queue-bytes : queue ≡ o .lent .queue
-  pub value : purged ≡ left (o .number) was (o .value)
-
--- take: and the 16 bytes
-pub record TakeCalled (o : Outcome) (s was : List ℕ) (n : ℕ) (state queue out : List ℕ) : Type 0 where
-  pub called : Called o s n state
-  pub queue-bytes : queue ≡ o .lent .queue
-  pub bytes : out ≡ left (o .number) was (o .bytes)
-
--- read_record: the 32 bytes
-pub record RecordCalled (o : Outcome) (s was : List ℕ) (n : ℕ) (state out : List ℕ) : Type 0 where
-  pub called : Called o s n state
-  pub bytes : out ≡ left (o .number) was (o .bytes)
-
--- read_text: every byte of the buffer, and the line's length
-pub record TextCalled (o : Outcome) (s : List ℕ) (was : ℕ) (n : ℕ) (state out : List ℕ) (len : ℕ) : Type 0 where
-  pub called : Called o s n state
-  pub out-bytes : out ≡ o .lent .out
-  pub value : len ≡ left (o .number) was (o .value)
-
--- send: every byte of the message table
-pub record SendCalled (o : Outcome) (s : List ℕ) (n : ℕ) (state send : List ℕ) : Type 0 where
-  pub called : Called o s n state
-  pub send-bytes : send ≡ o .lent .send
-
--- send_text: and the bytes used, refused or not
-pub record SendTextCalled (o : Outcome) (s : List ℕ) (n : ℕ) (state send : List ℕ) (used : ℕ) : Type 0 where
-  pub called : Called o s n state
-  pub send-bytes : send ≡ o .lent .send
-  pub value : used ≡ o .value
-
--- the print calls: number, every byte of the buffer, and the line's length
-pub record PrintCalled (o : Outcome) (was : ℕ) (n : ℕ) (out : List ℕ) (len : ℕ) : Type 0 where
-  pub number : n ≡ o .number
-  pub out-bytes : out ≡ o .lent .out
-  pub value : len ≡ left (o .number) was (o .value)
-
--- identifiers_through: number and count
-pub record CountCalled (o : Outcome) (was : ℕ) (n count : ℕ) : Type 0 where
-  pub number : n ≡ o .number
-  pub value : count ≡ left (o .number) was (o .value)
-
--- the number of a look at position p over an event table t
-unfoldable pub lookNumberOn : ℕ → List ℕ → List ℕ → ℕ
-lookNumberOn p s t = pick (isState s) (lookSaid p (deviceIn s) (lends t [] [])) 2
-
--- look: the number, and where the slot begins in the event table, as the recorder's look has it
-pub record LookCalled (p : ℕ) (s t : List ℕ) (was : ℕ) (n offset : ℕ) : Type 0 where
-  pub number : n ≡ lookNumberOn p s t
-  pub value : offset ≡ left (lookNumberOn p s t) was (lookedAt (deviceIn s .receive) t p)
+-- and a call with a place for a value, in which `was` stood
+pub record CalledWith {A : Type 0} (o : Outcome) (s : List ℕ) (was new : A) (n : ℕ) (state : List ℕ) (lent : Lent)
+    (value : A) : Type 0 where
+  pub call : Called o s n state lent
+  pub value-is : value ≡ left (o .number) was new
 
 -- an outcome leaves every byte of the state s, every lent byte, and whatever stands in a place for a value
 pub record Unchanged (o : Outcome) (s : List ℕ) (l : Lent) : Type 1 where

@@ -1,13 +1,17 @@
 // Changes of setting.
 ghost use mathlib.Core.List.{[]};
-ghost use Rattle.recorder.specs.Outcomes.{lends};
-ghost use Rattle.recorder.specs.Receiving.{modeSet, formatSet, filterSet, eventMaskSet};
-ghost use Rattle.board.specs.Board.{on, Called, QueueCalled};
+ghost use Rattle.recorder.specs.Outcomes.{Outcome, lends};
+ghost use Rattle.model.specs.Inbox.{setFilter, setEventMask};
+ghost use Rattle.model.specs.Box.{onDevice, onReceive, setMode, setFormat};
+ghost use Rattle.board.specs.Board.{called, Called};
 
 // Sets the mode.
 #[no_mangle]
 pub extern "C" fn sv_set_mode(state: &mut [u8], mode: u32, tick: u32, queue: &mut [u8]) -> u32
-    ensures { λ n. ⌜ QueueCalled (on (modeSet mode tick) (now (state .entry)) (lends (now (queue .entry)) [] [])) (now (state .entry)) n (now (state .exit)) (now (queue .exit)) ⌝ }
+    ensures { λ n.
+        let o : Outcome = called (onDevice (setMode mode tick)) (now (state .entry))
+        (lends (now (queue .entry)) [] []) in
+        ⌜ Called o (now (state .entry)) n (now (state .exit)) (lends (now (queue .exit)) [] []) ⌝ }
 {
     if !kept::state::is_state(state) {
         return 2;
@@ -20,8 +24,10 @@ pub extern "C" fn sv_set_mode(state: &mut [u8], mode: u32, tick: u32, queue: &mu
 // Sets the default format.
 #[no_mangle]
 pub extern "C" fn sv_set_format(state: &mut [u8], format: u32, tick: u32, queue: &mut [u8]) -> u32
-    ensures { λ n. ⌜ QueueCalled (on (formatSet format tick) (now (state .entry)) (lends (now (queue .entry)) [] []))
-        (now (state .entry)) n (now (state .exit)) (now (queue .exit)) ⌝ }
+    ensures { λ n.
+        let o : Outcome = called (onDevice (setFormat format tick)) (now (state .entry))
+        (lends (now (queue .entry)) [] []) in
+        ⌜ Called o (now (state .entry)) n (now (state .exit)) (lends (now (queue .exit)) [] []) ⌝ }
 {
     if !kept::state::is_state(state) {
         return 2;
@@ -34,7 +40,9 @@ pub extern "C" fn sv_set_format(state: &mut [u8], format: u32, tick: u32, queue:
 // Sets code and mask of the filter.
 #[no_mangle]
 pub extern "C" fn sv_set_filter(state: &mut [u8], code: u32, mask: u32) -> u32
-    ensures { λ n. ⌜ Called (on (filterSet code mask) (now (state .entry)) (lends [] [] [])) (now (state .entry)) n (now (state .exit)) ⌝ }
+    ensures { λ n.
+        let o : Outcome = called (onReceive (setFilter code mask)) (now (state .entry)) (lends [] [] []) in
+        ⌜ Called o (now (state .entry)) n (now (state .exit)) (lends [] [] []) ⌝ }
 {
     if !kept::state::is_state(state) {
         return 2;
@@ -47,7 +55,9 @@ pub extern "C" fn sv_set_filter(state: &mut [u8], code: u32, mask: u32) -> u32
 // Sets the event mask.
 #[no_mangle]
 pub extern "C" fn sv_set_event_mask(state: &mut [u8], events: u32) -> u32
-    ensures { λ n. ⌜ Called (on (eventMaskSet events) (now (state .entry)) (lends [] [] [])) (now (state .entry)) n (now (state .exit)) ⌝ }
+    ensures { λ n.
+        let o : Outcome = called (onReceive (setEventMask events)) (now (state .entry)) (lends [] [] []) in
+        ⌜ Called o (now (state .entry)) n (now (state .exit)) (lends [] [] []) ⌝ }
 {
     if !kept::state::is_state(state) {
         return 2;

@@ -1,9 +1,9 @@
 // The print calls: they take Align from the channel and change no state.
 ghost use mathlib.Core.List.{[]};
-ghost use Rattle.recorder.specs.Outcomes.{lends};
-ghost use Rattle.recorder.specs.Printing.{messageRecordPrinted, eventRecordPrinted, messagePrinted};
+ghost use Rattle.recorder.specs.Outcomes.{Outcome, lends};
+ghost use Rattle.model.specs.Box.{onAlign, printMessageRecord, printEventRecord, printMessage};
 ghost use Rattle.kept.specs.Handing.{message};
-ghost use Rattle.board.specs.Board.{on, PrintCalled};
+ghost use Rattle.board.specs.Board.{called, CalledWith};
 
 // Prints a message record.
 #[no_mangle]
@@ -13,8 +13,11 @@ pub extern "C" fn sv_print_message_record(
     out: &mut [u8],
     length: &mut usize,
 ) -> u32
-    ensures { λ n. ⌜ PrintCalled (on (messageRecordPrinted (now (s .entry))) (now (state .entry)) (lends [] [] (now (out .entry))))
-        (now (length .entry)) n (now (out .exit)) (now (length .exit)) ⌝ }
+    ensures { λ n.
+        let o : Outcome = called (onAlign (printMessageRecord (now (s .entry)))) (now (state .entry))
+        (lends [] [] (now (out .entry))) in
+        ⌜ CalledWith o (now (state .entry)) (now (length .entry)) (o .value) n (now (state .entry))
+        (lends [] [] (now (out .exit))) (now (length .exit)) ⌝ }
 {
     if !kept::state::is_state(state) {
         return 2;
@@ -33,8 +36,11 @@ pub extern "C" fn sv_print_event_record(
     out: &mut [u8],
     length: &mut usize,
 ) -> u32
-    ensures { λ n. ⌜ PrintCalled (on (eventRecordPrinted (now (s .entry))) (now (state .entry)) (lends [] [] (now (out .entry))))
-        (now (length .entry)) n (now (out .exit)) (now (length .exit)) ⌝ }
+    ensures { λ n.
+        let o : Outcome = called (onAlign (printEventRecord (now (s .entry)))) (now (state .entry))
+        (lends [] [] (now (out .entry))) in
+        ⌜ CalledWith o (now (state .entry)) (now (length .entry)) (o .value) n (now (state .entry))
+        (lends [] [] (now (out .exit))) (now (length .exit)) ⌝ }
 {
     if !kept::state::is_state(state) {
         return 2;
@@ -57,8 +63,11 @@ pub extern "C" fn sv_print_message(
     out: &mut [u8],
     length: &mut usize,
 ) -> u32
-    ensures { λ n. ⌜ PrintCalled (on (messagePrinted (message id format rtr dlc (now (bytes .entry)))) (now (state .entry)) (lends [] [] (now (out .entry))))
-        (now (length .entry)) n (now (out .exit)) (now (length .exit)) ⌝ }
+    ensures { λ n.
+        let o : Outcome = called (onAlign (printMessage (message id format rtr dlc (now (bytes .entry)))))
+        (now (state .entry)) (lends [] [] (now (out .entry))) in
+        ⌜ CalledWith o (now (state .entry)) (now (length .entry)) (o .value) n (now (state .entry))
+        (lends [] [] (now (out .exit))) (now (length .exit)) ⌝ }
 {
     if !kept::state::is_state(state) {
         return 2;

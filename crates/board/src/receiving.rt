@@ -2,12 +2,15 @@
 use common::rings;
 ghost use mathlib.Core.Path.{_≡_};
 ghost use mathlib.Core.List.{[]};
-ghost use Rattle.recorder.specs.Outcomes.{lends};
-ghost use Rattle.recorder.specs.Receiving.{raised, recordRead, textRead, through};
+ghost use Rattle.inbox.specs.Calls.{lookedAt};
+ghost use Rattle.recorder.specs.Outcomes.{Outcome, lends};
+ghost use Rattle.model.specs.Inbox.{readRecord, readText, look, identifiersThrough};
+ghost use Rattle.model.specs.Box.{onDevice, onReceive, raise};
+ghost use Rattle.kept.specs.State.{deviceIn};
 ghost use Rattle.kept.specs.Handing.{message};
-ghost use Rattle.board.specs.Board.{on, lookNumberOn, QueueCalled, RecordCalled, TextCalled, LookCalled, CountCalled};
+ghost use Rattle.board.specs.Board.{called, Called, CalledWith};
 
-// Raises an event.
+// Raises an event; the state is judged where it stands, so the inbox need not judge it again.
 #[no_mangle]
 pub extern "C" fn sv_raise(
     state: &mut [u8],
@@ -20,23 +23,30 @@ pub extern "C" fn sv_raise(
     bytes: &[u8; 8],
     queue: &mut [u8],
 ) -> u32
-    ensures { λ n. ⌜ QueueCalled (on (raised code tick (message id format rtr dlc (now (bytes .entry)))) (now (state .entry)) (lends (now (queue .entry)) [] []))
-        (now (state .entry)) n (now (state .exit)) (now (queue .exit)) ⌝ }
+    ensures { λ n.
+        let o : Outcome = called (onDevice (raise code tick (message id format rtr dlc (now (bytes .entry)))))
+        (now (state .entry)) (lends (now (queue .entry)) [] []) in
+        ⌜ Called o (now (state .entry)) n (now (state .exit)) (lends (now (queue .exit)) [] []) ⌝ }
 {
-    if !kept::state::is_state(state) {
+    if !kept::judging::is_possible(state) {
         return 2;
     }
     let d = kept::state::device_in(state);
     let m = kept::handing::message(id, format, rtr, dlc, bytes);
-    let r = recorder::receiving::raise(d, code, tick, m, queue);
-    kept::handing::leave_queue(state, r.number, r.device)
+    let receive = d.receive;
+    let number = inbox::raising::raise_possible(d.shared, receive, code, tick, m, queue);
+    let next = inbox::raising::after_raise(receive, number);
+    let ring = next.ring;
+    kept::handing::leave_counted(state, number, ring.count, next.pending)
 }
 
 // Reads the oldest event as its 32 bytes.
 #[no_mangle]
 pub extern "C" fn sv_read_record(state: &mut [u8], queue: &[u8], out: &mut [u8; 32]) -> u32
-    ensures { λ n. ⌜ RecordCalled (on recordRead (now (state .entry)) (lends (now (queue .entry)) [] []))
-        (now (state .entry)) (now (out .entry)) n (now (state .exit)) (now (out .exit)) ⌝ }
+    ensures { λ n.
+        let o : Outcome = called (onReceive readRecord) (now (state .entry)) (lends (now (queue .entry)) [] []) in
+        ⌜ CalledWith o (now (state .entry)) (now (out .entry)) (o .bytes) n (now (state .exit))
+        (lends (now (queue .entry)) [] []) (now (out .exit)) ⌝ }
 {
     if !kept::state::is_state(state) {
         return 2;
@@ -45,7 +55,10 @@ pub extern "C" fn sv_read_record(state: &mut [u8], queue: &[u8], out: &mut [u8; 
     let r = recorder::receiving::read_record(d, queue);
     let b = r.bytes;
     kept::handing::hand_event(out, r.number, b);
-    kept::handing::leave_queue(state, r.number, r.device)
+    let next = r.device;
+    let receive = next.receive;
+    let ring = receive.ring;
+    kept::handing::leave_advanced(state, r.number, ring.first, ring.count)
 }
 
 // Reads the oldest event as text.
@@ -56,8 +69,11 @@ pub extern "C" fn sv_read_text(
     out: &mut [u8],
     length: &mut usize,
 ) -> u32
-    ensures { λ n. ⌜ TextCalled (on textRead (now (state .entry)) (lends (now (queue .entry)) [] (now (out .entry)))) (now (state .entry))
-        (now (length .entry)) n (now (state .exit)) (now (out .exit)) (now (length .exit)) ⌝ }
+    ensures { λ n.
+        let o : Outcome = called (onReceive readText) (now (state .entry))
+        (lends (now (queue .entry)) [] (now (out .entry))) in
+        ⌜ CalledWith o (now (state .entry)) (now (length .entry)) (o .value) n (now (state .exit))
+        (lends (now (queue .entry)) [] (now (out .exit))) (now (length .exit)) ⌝ }
 {
     if !kept::state::is_state(state) {
         return 2;
@@ -65,13 +81,18 @@ pub extern "C" fn sv_read_text(
     let d = kept::state::device_in(state);
     let r = recorder::receiving::read_text(d, queue, out);
     kept::handing::hand(length, r.number, r.value);
-    kept::handing::leave_queue(state, r.number, r.device)
+    let next = r.device;
+    let receive = next.receive;
+    let ring = receive.ring;
+    kept::handing::leave_advanced(state, r.number, ring.first, ring.count)
 }
 
 // The number of a look at position p.
 #[no_mangle]
 pub extern "C" fn sv_look_number(state: &[u8], queue: &[u8], p: u32) -> u32
-    ensures { λ n. ⌜ n ≡ lookNumberOn p (now (state .entry)) (now (queue .entry)) ⌝ }
+    ensures { λ n.
+        let o : Outcome = called (onReceive (look p)) (now (state .entry)) (lends (now (queue .entry)) [] []) in
+        ⌜ Called o (now (state .entry)) n (now (state .entry)) (lends (now (queue .entry)) [] []) ⌝ }
 {
     if !kept::state::is_state(state) {
         return 2;
@@ -83,7 +104,11 @@ pub extern "C" fn sv_look_number(state: &[u8], queue: &[u8], p: u32) -> u32
 // A look at position p: where the slot begins in the caller's own table.
 #[no_mangle]
 pub extern "C" fn sv_look(state: &[u8], queue: &[u8], p: u32, offset: &mut usize) -> u32
-    ensures { λ n. ⌜ LookCalled p (now (state .entry)) (now (queue .entry)) (now (offset .entry)) n (now (offset .exit)) ⌝ }
+    ensures { λ n.
+        let o : Outcome = called (onReceive (look p)) (now (state .entry)) (lends (now (queue .entry)) [] []) in
+        ⌜ CalledWith o (now (state .entry)) (now (offset .entry))
+        (lookedAt (deviceIn (now (state .entry)) .receive) (now (queue .entry)) p) n (now (state .entry))
+        (lends (now (queue .entry)) [] []) (now (offset .exit)) ⌝ }
 {
     if !kept::state::is_state(state) {
         return 2;
@@ -102,7 +127,10 @@ pub extern "C" fn sv_look(state: &[u8], queue: &[u8], p: u32, offset: &mut usize
 // How many identifiers of a format the filter lets through.
 #[no_mangle]
 pub extern "C" fn sv_identifiers_through(state: &[u8], format: u32, count: &mut u32) -> u32
-    ensures { λ n. ⌜ CountCalled (on (through format) (now (state .entry)) (lends [] [] [])) (now (count .entry)) n (now (count .exit)) ⌝ }
+    ensures { λ n.
+        let o : Outcome = called (onReceive (identifiersThrough format)) (now (state .entry)) (lends [] [] []) in
+        ⌜ CalledWith o (now (state .entry)) (now (count .entry)) (o .value) n (now (state .entry)) (lends [] [] [])
+        (now (count .exit)) ⌝ }
 {
     if !kept::state::is_state(state) {
         return 2;

@@ -1,9 +1,11 @@
 // Sending a message, binary or as text.
 ghost use mathlib.Core.List.{[]};
-ghost use Rattle.recorder.specs.Outcomes.{lends};
-ghost use Rattle.recorder.specs.Sending.{sent, textSent};
+ghost use mathlib.Core.Path.{_≡_};
+ghost use Rattle.recorder.specs.Outcomes.{Outcome, lends};
+ghost use Rattle.model.specs.Outbox as Outbox;
+ghost use Rattle.model.specs.Box.{onSend};
 ghost use Rattle.kept.specs.Handing.{message};
-ghost use Rattle.board.specs.Board.{on, SendCalled, SendTextCalled};
+ghost use Rattle.board.specs.Board.{called, Called};
 
 // Sends a message given in binary.
 #[no_mangle]
@@ -16,8 +18,10 @@ pub extern "C" fn sv_send(
     bytes: &[u8; 8],
     send: &mut [u8],
 ) -> u32
-    ensures { λ n. ⌜ SendCalled (on (sent (message id format rtr dlc (now (bytes .entry)))) (now (state .entry)) (lends [] (now (send .entry)) []))
-        (now (state .entry)) n (now (state .exit)) (now (send .exit)) ⌝ }
+    ensures { λ n.
+        let o : Outcome = called (onSend (Outbox.send (message id format rtr dlc (now (bytes .entry)))))
+        (now (state .entry)) (lends [] (now (send .entry)) []) in
+        ⌜ Called o (now (state .entry)) n (now (state .exit)) (lends [] (now (send .exit)) []) ⌝ }
 {
     if !kept::state::is_state(state) {
         return 2;
@@ -36,8 +40,11 @@ pub extern "C" fn sv_send_text(
     send: &mut [u8],
     used: &mut usize,
 ) -> u32
-    ensures { λ n. ⌜ SendTextCalled (on (textSent (now (text .entry))) (now (state .entry)) (lends [] (now (send .entry)) []))
-        (now (state .entry)) n (now (state .exit)) (now (send .exit)) (now (used .exit)) ⌝ }
+    ensures { λ n.
+        let o : Outcome = called (onSend (Outbox.sendText (now (text .entry)))) (now (state .entry))
+        (lends [] (now (send .entry)) []) in
+        ⌜ Called o (now (state .entry)) n (now (state .exit)) (lends [] (now (send .exit)) [])
+        × (now (used .exit) ≡ o .value) ⌝ }
 {
     if !kept::state::is_state(state) {
         *used = 0;

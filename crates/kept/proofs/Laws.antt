@@ -1,58 +1,127 @@
--- What the functions of state and handing show.
+-- What the functions of words, parts, state and handing show.
 use mathlib.Core.Path.{_≡_, refl, sym, ap, _∙_}
-use mathlib.Core.List.{List, [], _∷_, _++_, append-nil}
+use mathlib.Core.List.{List, [], _∷_, _++_, append-nil, append-assoc}
 use mathlib.Core.Bool.{Bool, true, false}
-use Prim.Native.Nat.{ℕ, suc, _+_, _*_, _≤_}
+use Prim.Native.Nat.{ℕ, suc, _+_, _-_, _≤_}
 use native.Mathlib.Omega.{arith}
-use lib.ListN.{length, getD, set, length-append, drop-of-length-le}
-use lib.Seq.{sets, sets-eq}
+use lib.ListN.{length, getD, set, take, drop, length-append, length-drop, drop-of-length-le}
+use lib.Seq.{sets, sets-eq, length-sets, slice, take-all, take-add, drop-at, drop-drop, length-take-le, length-slice}
 use lib.Dec.{leb, eqb}
 use borrow.Author.Tests.{eqb-true, eq-eqb, ne-eqb}
 use mir.Val.{boolByte}
 use Rattle.common.specs.Choice.{pick}
 use Rattle.common.specs.Numbers.{Bytes, bytesOf, numberOf}
-use Rattle.common.proofs.Bools.{and-left}
-use Rattle.common.proofs.Lists.{reads, reads-slice, reads-all}
 use Rattle.common.specs.Refusals.{isRefusal}
+use Rattle.common.proofs.Bools.{and-left}
+use Rattle.common.proofs.Lists.{reads-slice, copy-fills}
 use Rattle.digits.proofs.Written.{sets-append}
-use Rattle.settings.specs.declared.Shared.{Shared}
-use Rattle.inbox.specs.declared.Receive.{Receive}
+use Rattle.records.specs.declared.Message.{Message}
 use Rattle.outbox.specs.declared.Send.{Send}
 use Rattle.recorder.specs.declared.Device.{Device}
-use Rattle.kept.specs.State.{front, rest, numbers, words, stateBytes, word, deviceIn, isState, queueMoved}
+use Rattle.kept.specs.State.{sharedNumbers, receiveNumbers, sendNumbers, registerNumbers, registerBytes, numbers}
+use Rattle.kept.specs.State.{stateSize, receiveAt, sendAt, words, stateBytes, word, deviceIn, isState}
+use Rattle.kept.specs.State.{counted, advanced, transferred}
 use Rattle.kept.specs.Handing.{left}
 use Rattle.kept.proofs.RoundTrip.{state-back}
 
+-- ---- reading
+
 -- a number read byte by byte
-pub word-read : (s : List ℕ) (k a n : ℕ) → a ≡ 4 * k → 4 * k + 4 ≤ length s → n ≡ numberOf (getD s a 0 ∷ getD s (a + 1) 0 ∷ getD s (a + 2) 0 ∷ getD s (a + 3) 0 ∷ []) → n ≡ word s k
+pub word-read : (s : List ℕ) (at n : ℕ) → at + 4 ≤ length s
+    → n ≡ numberOf (getD s at 0 ∷ getD s (at + 1) 0 ∷ getD s (at + 2) 0 ∷ getD s (at + 3) 0 ∷ []) → n ≡ word s at
 unfolding word
-word-read s k a n ea h e =
-    let e1 : a + 1 ≡ suc (4 * k) = omega arith in
-    let e2 : a + 2 ≡ suc (suc (4 * k)) = omega arith in
-    let e3 : a + 3 ≡ suc (suc (suc (4 * k))) = omega arith in
-    (rw (e1, e2, e3, ea) at e) ∙ ap numberOf (reads-slice s (4 * k) 4 h)
+word-read s at n h e =
+    let e1 : at + 1 ≡ suc at = omega arith in
+    let e2 : at + 2 ≡ suc (suc at) = omega arith in
+    let e3 : at + 3 ≡ suc (suc (suc at)) = omega arith in
+    (rw (e1, e2, e3) at e) ∙ ap numberOf (reads-slice s at 4 h)
+
+-- a part copied over a list as long
+pub part-read : (s z : List ℕ) (at : ℕ) {out : List ℕ} → at + length z ≤ length s
+    → out
+    ≡ take (length z) (take (at + length z - at) (drop at s))
+    ++ drop (length (take (at + length z - at) (drop at s))) z
+    → out ≡ slice at (at + length z) s
+part-read s z at h e =
+    let n = length z in
+    let part = take n (drop at s) in
+    let w : at + n - at ≡ n = omega arith in
+    let l : length part ≡ n = length-take-le n (drop at s) (rw length-drop (omega arith)) in
+    e ∙ rw w (copy-fills part z l)
+    ∙ sym (ap (drop at) (take-add at n s) ∙ drop-at (take at s) part at (length-take-le at s (omega arith)))
+
+-- ---- writing
 
 -- stores one behind the other
-pub four-stores : (s : List ℕ) (at a b c d : ℕ) → set (set (set (set s at a) (at + 1) b) (at + 2) c) (at + 3) d ≡ sets s at (a ∷ b ∷ c ∷ d ∷ [])
+pub four-stores : (s : List ℕ) (at a b c d : ℕ)
+    → set (set (set (set s at a) (at + 1) b) (at + 2) c) (at + 3) d ≡ sets s at (a ∷ b ∷ c ∷ d ∷ [])
 four-stores s at a b c d =
     let e1 : at + 1 ≡ suc at = omega arith in
     let e2 : at + 2 ≡ suc (suc at) = omega arith in
     let e3 : at + 3 ≡ suc (suc (suc at)) = omega arith in
     rw (e1, e2, e3)
 
-pub eight-stores : (s : List ℕ) (at : ℕ) (b : List ℕ) → length b ≡ 8
-    → set (set (set (set (set (set (set (set s at (getD b 0 0)) (at + 1) (getD b 1 0)) (at + 2) (getD b 2 0)) (at + 3) (getD b 3 0)) (at + 4) (getD b 4 0))
-    (at + 5) (getD b 5 0)) (at + 6) (getD b 6 0)) (at + 7) (getD b 7 0)
-    ≡ sets s at b
-eight-stores s at b l =
-    let e4 : at + 4 ≡ suc (suc (suc (suc at))) = omega arith in
-    let e5 : at + 5 ≡ suc (suc (suc (suc at))) + 1 = omega arith in
-    let e6 : at + 6 ≡ suc (suc (suc (suc at))) + 2 = omega arith in
-    let e7 : at + 7 ≡ suc (suc (suc (suc at))) + 3 = omega arith in
-    let x = four-stores s at (getD b 0 0) (getD b 1 0) (getD b 2 0) (getD b 3 0) in
-    let y = four-stores (sets s at (reads b 0 4)) (suc (suc (suc (suc at)))) (getD b 4 0) (getD b 5 0) (getD b 6 0) (getD b 7 0) in
-    rw (x, e4, e5, e6, e7, y)
-    (ap (sets s at) (reads-all b 8 l))
+-- two parts, one behind the other
+pub both-written : (s x y : List ℕ) (at : ℕ) {s0 s1 : List ℕ} → s0 ≡ sets s at x → s1 ≡ sets s0 (at + length x) y
+    → s1 ≡ sets s at (x ++ y)
+both-written s x y at e0 e1 = e1 ∙ rw e0 (sym (sets-append s at x y))
+
+-- what is behind a place, as the code lends it
+abbrev behind : List ℕ → ℕ → List ℕ
+behind s at = take (length s - at) (drop at s)
+
+-- bytes copied to the front of what is behind a place
+copied-there : (s b : List ℕ) (at : ℕ) {last : List ℕ} → at + length b ≤ length s
+    → last ≡ take (length (behind s at)) b ++ drop (length b) (behind s at)
+    → take at s ++ (last ++ drop (length s - at) (drop at s)) ≡ sets s at b
+copied-there s b at {last} h e =
+    let n : length (drop at s) ≡ length s - at = length-drop at s in
+    let whole = take-all (length s - at) (drop at s) (omega arith) in
+    let f : last ≡ b ++ drop (at + length b) s =
+    e ∙ rw (whole, take-all (length (drop at s)) b (omega arith), drop-drop (length b) at s) in
+    rw (drop-of-length-le (drop at s) {i = length s - at} (omega arith), append-nil last, f)
+    (sym (sets-eq b s at h ∙ append-assoc (take at s) b (drop (at + length b) s)))
+
+held-number : (b : Bool) → boolByte b ≡ pick b 1 0
+held-number true = refl
+held-number false = refl
+
+-- the register: held or not, its header, and its data bytes copied behind them
+pub register-written : (s : List ℕ) (held : Bool) (m : Message) (at : ℕ) {s0 s1 last : List ℕ}
+    → at + 28 ≤ length s → length (m .bytes) ≡ 8
+    → s0 ≡ sets s at (bytesOf 4 (boolByte held))
+    → s1 ≡ sets s0 (at + 4) (words (m .header .id ∷ m .header .format ∷ m .header .rtr ∷ m .header .dlc ∷ []))
+    → last ≡ take (length (behind s1 (at + 20))) (m .bytes) ++ drop (length (m .bytes)) (behind s1 (at + 20))
+    → take (at + 20) s1 ++ (last ++ drop (length s1 - (at + 20)) (drop (at + 20) s1)) ≡ sets s at (registerBytes held m)
+register-written s held m at {s0} {s1} long eight e0 e1 e2 =
+    let h = m .header in
+    let ns = words (registerNumbers held m) in
+    let w : s1 ≡ sets s at ns =
+    both-written s (bytesOf 4 (pick held 1 0)) (words (h .id ∷ h .format ∷ h .rtr ∷ h .dlc ∷ [])) at
+    (rw (held-number held) at e0) e1 in
+    let l : length s1 ≡ length s = ap length w ∙ length-sets s at ns in
+    both-written s ns (m .bytes) at w (copied-there s1 (m .bytes) (at + 20) (omega arith) e2)
+
+-- the three parts fill the state
+pub state-written : (s : List ℕ) (d : Device) {s0 s1 s2 : List ℕ} → length s ≡ stateSize
+    → s0 ≡ sets s 0 (words (sharedNumbers (d .shared)))
+    → s1 ≡ sets s0 receiveAt (words (receiveNumbers (d .receive)))
+    → (s2 ≡ sets s1 sendAt (words (sendNumbers (d .send)) ++ d .send .message .bytes))
+    × (length (d .send .message .bytes) ≡ 8)
+    → s2 ≡ stateBytes d
+unfolding stateBytes
+state-written s d l e0 e1 (e2, m) =
+    let shared = words (sharedNumbers (d .shared)) in
+    let receive = words (receiveNumbers (d .receive)) in
+    let send = words (sendNumbers (d .send)) ++ d .send .message .bytes in
+    let all : List ℕ = words (numbers d) ++ d .send .message .bytes in
+    let n : length all ≡ stateSize = length-append (words (numbers d)) (d .send .message .bytes) ∙ rw m in
+    both-written s (shared ++ receive) send 0 (both-written s shared receive 0 e0 e1) e2
+    ∙ sets-eq all s 0 (omega arith)
+    ∙ ap (λ (r : List ℕ). all ++ r) (drop-of-length-le s {i = 0 + length all} (omega arith))
+    ∙ append-nil all
+
+-- ---- what a call leaves
 
 -- what a lent place holds after a call, the test of its number being b
 pub kept-old : {A : Type 0} {b : Bool} (n : ℕ) (old new : A) → b ≡ isRefusal n → b ≡ true → old ≡ left n old new
@@ -62,80 +131,71 @@ pub kept-new : {A : Type 0} {b : Bool} (n : ℕ) (old new : A) → b ≡ isRefus
 kept-new n old new e h = rw (← e, h)
 
 -- what is said of a state's bytes
-pub no-state : (s : List ℕ) → (length s ≡ 88 → ⊥) → false ≡ isState s
+pub no-state : (s : List ℕ) → (length s ≡ stateSize → ⊥) → isState s ≡ false
 unfolding isState
-no-state s h = rw (ne-eqb (length s) 88 h)
+no-state s h = rw (ne-eqb (length s) stateSize h)
 
-pub state-tested : (s : List ℕ) (n : ℕ) → length s ≡ 88 → n ≡ word s 15 → leb n 1 ≡ isState s
+pub state-tested : (s : List ℕ) (n : ℕ) → length s ≡ stateSize → n ≡ word s (sendAt + 16) → leb n 1 ≡ isState s
 unfolding isState
-state-tested s n l e = rw (e, eq-eqb (length s) 88 l)
+state-tested s n l e = rw (e, eq-eqb (length s) stateSize l)
 
 -- a state is 88 bytes long
-pub state-long : (s : List ℕ) → isState s ≡ true → length s ≡ 88
+pub state-long : (s : List ℕ) → isState s ≡ true → length s ≡ stateSize
 unfolding isState
-state-long s h = eqb-true (length s) 88 (and-left (eqb (length s) 88) (leb (word s 15) 1) h)
+state-long s h = eqb-true (length s) stateSize (and-left (eqb (length s) stateSize) (leb (word s (sendAt + 16)) 1) h)
 
--- numbers written one behind the other
-pub four-written : (a b c d at : ℕ) (s : List ℕ) {s0 s1 s2 s3 : List ℕ} → s0 ≡ sets s at (bytesOf 4 a) → s1 ≡ sets s0 (at + 4) (bytesOf 4 b) → s2 ≡ sets s1 (at + 8) (bytesOf 4 c)
-    → s3 ≡ sets s2 (at + 12) (bytesOf 4 d) → s3 ≡ sets s at (words (a ∷ b ∷ c ∷ d ∷ []))
-four-written a b c d at s e0 e1 e2 e3 =
-    e3 ∙ rw (e2, e1, e0)
-    (sym (sets-append s at (bytesOf 4 a ++ bytesOf 4 b ++ bytesOf 4 c) (bytesOf 4 d)
-    ∙ ap (λ (t : List ℕ). sets t (at + 12) (bytesOf 4 d)) (sets-append s at (bytesOf 4 a ++ bytesOf 4 b) (bytesOf 4 c)
-    ∙ ap (λ (t : List ℕ). sets t (at + 8) (bytesOf 4 c)) (sets-append s at (bytesOf 4 a) (bytesOf 4 b)))))
+-- numbers written over the bytes of a device are those of the device with them
+module _ (d : Device) where
+  over-counted : (count pending : ℕ)
+      → sets (stateBytes d) (receiveAt + 24) (words (count ∷ pending ∷ [])) ≡ stateBytes (counted d count pending)
+  unfolding stateBytes
+  over-counted count pending = refl
 
--- three parts behind each other
-pub three-parts : (at : ℕ) (x y z s : List ℕ) {s0 s1 s2 : List ℕ} → s0 ≡ sets s at x → s1 ≡ sets s0 (at + length x) y → s2 ≡ sets s1 (at + length (x ++ y)) z → s2 ≡ sets s at (x ++ y ++ z)
-three-parts at x y z s e0 e1 e2 =
-    e2 ∙ rw (e1, e0) (sym (sets-append s at (x ++ y) z ∙ ap (λ (t : List ℕ). sets t (at + length (x ++ y)) z) (sets-append s at x y)))
+  over-advanced : (first count : ℕ)
+      → sets (stateBytes d) (receiveAt + 20) (words (first ∷ count ∷ [])) ≡ stateBytes (advanced d first count)
+  unfolding stateBytes
+  over-advanced first count = refl
 
-pub front-written : (c : Shared) (r : Receive) (tx : ℕ) (s : List ℕ) {s0 s1 s2 : List ℕ} → s0 ≡ sets s 0 (words (c .mode ∷ c .format ∷ c .align ∷ r .filter .active ∷ []))
-    → s1 ≡ sets s0 16 (words (r .filter .code ∷ r .filter .mask ∷ r .events ∷ r .ring .capacity ∷ []))
-    → s2 ≡ sets s1 32 (words (r .ring .first ∷ r .ring .count ∷ r .pending ∷ tx ∷ []))
-    → s2 ≡ sets s 0 (words (front c r tx))
-front-written c r tx s e0 e1 e2 =
-    three-parts 0 (words (c .mode ∷ c .format ∷ c .align ∷ r .filter .active ∷ [])) (words (r .filter .code ∷ r .filter .mask ∷ r .events ∷ r .ring .capacity ∷ []))
-    (words (r .ring .first ∷ r .ring .count ∷ r .pending ∷ tx ∷ [])) s e0 e1 e2
+  over-transferred : (s : Send) → length (d .send .message .bytes) ≡ 8 → length (s .message .bytes) ≡ 8
+      → sets (sets (stateBytes d) (sendAt + 8) (words (s .ring .first ∷ s .ring .count ∷ []))) (sendAt + 16)
+      (registerBytes (s .held) (s .message))
+      ≡ stateBytes (transferred d s)
+  unfolding stateBytes
+  over-transferred s l m =
+      let new = words (numbers (transferred d s)) in
+      let old = d .send .message .bytes in
+      let b = s .message .bytes in
+      let n : length (new ++ old) ≡ 88 = length-append new old ∙ rw l in
+      let ring = words (s .ring .first ∷ s .ring .count ∷ []) in
+      sets-append (sets (words (numbers d) ++ old) (sendAt + 8) ring) (sendAt + 16)
+      (words (registerNumbers (s .held) (s .message))) b
+      ∙ sets-eq b (new ++ old) 80 (omega arith)
+      ∙ ap (λ (r : List ℕ). new ++ b ++ r) (drop-of-length-le (new ++ old) {i = 80 + length b} (omega arith))
+      ∙ append-nil (new ++ b)
 
-held-number : (b : Bool) → boolByte b ≡ pick b 1 0
-held-number true = refl
-held-number false = refl
+-- so are those written over the bytes of a state
+module _ (s : List ℕ) (g : Bytes s) (h : isState s ≡ true) where
+  back : s ≡ stateBytes (deviceIn s)
+  back = sym (state-back s g h)
 
-pub rest-written : (d : Send) (s : List ℕ) {s0 s1 s2 : List ℕ} → s0 ≡ sets s 48 (words (d .ring .capacity ∷ d .ring .first ∷ d .ring .count ∷ boolByte (d .held) ∷ []))
-    → s1 ≡ sets s0 64 (words (d .message .header .id ∷ d .message .header .format ∷ d .message .header .rtr ∷ d .message .header .dlc ∷ []))
-    → s2 ≡ sets s1 80 (d .message .bytes)
-    → s2 ≡ sets s 48 (words (rest d) ++ d .message .bytes)
-rest-written d s e0 e1 e2 =
-    three-parts 48 (words (d .ring .capacity ∷ d .ring .first ∷ d .ring .count ∷ pick (d .held) 1 0 ∷ []))
-    (words (d .message .header .id ∷ d .message .header .format ∷ d .message .header .rtr ∷ d .message .header .dlc ∷ []))
-    (d .message .bytes) s (rw (held-number (d .held)) at e0) e1 e2
+  pub counted-written : (count pending : ℕ) {t : List ℕ} → t ≡ sets s (receiveAt + 24) (words (count ∷ pending ∷ []))
+      → t ≡ stateBytes (counted (deviceIn s) count pending)
+  counted-written count pending e =
+      e ∙ ap (λ (u : List ℕ). sets u (receiveAt + 24) (words (count ∷ pending ∷ []))) back
+      ∙ over-counted (deviceIn s) count pending
 
--- the device's numbers and data bytes fill the state
-pub state-written : (d : Device) (s : List ℕ) {s0 s1 : List ℕ} → length s ≡ 88 → s0 ≡ sets s 0 (words (front (d .shared) (d .receive) (d .send .tx)))
-    → (s1 ≡ sets s0 48 (words (rest (d .send)) ++ d .send .message .bytes)) × (length (d .send .message .bytes) ≡ 8)
-    → s1 ≡ stateBytes d
-unfolding stateBytes
-state-written d s l e0 (e1, m) =
-    let all : List ℕ = words (numbers d) ++ d .send .message .bytes in
-    let n : length all ≡ 88 = length-append (words (numbers d)) (d .send .message .bytes) ∙ rw m in
-    e1 ∙ rw e0 (sym (sets-append s 0 (words (front (d .shared) (d .receive) (d .send .tx))) (words (rest (d .send)) ++ d .send .message .bytes)))
-    ∙ sets-eq all s 0 (omega arith)
-    ∙ ap (λ (r : List ℕ). all ++ r) (drop-of-length-le s {i = 0 + length all} (omega arith))
-    ∙ append-nil all
+  pub advanced-written : (first count : ℕ) {t : List ℕ} → t ≡ sets s (receiveAt + 20) (words (first ∷ count ∷ []))
+      → t ≡ stateBytes (advanced (deviceIn s) first count)
+  advanced-written first count e =
+      e ∙ ap (λ (u : List ℕ). sets u (receiveAt + 20) (words (first ∷ count ∷ []))) back
+      ∙ over-advanced (deviceIn s) first count
 
--- four numbers over a device's bytes: those of its queue and TxMode
-abbrev four : Receive → ℕ → List ℕ
-four r tx = words (r .ring .first ∷ r .ring .count ∷ r .pending ∷ tx ∷ [])
-
-over : (d : Device) (r : Receive) → sets (stateBytes d) 32 (four r (d .send .tx)) ≡ stateBytes (queueMoved d r)
-unfolding stateBytes
-over d r = refl
-
--- the bytes of a state with its queue moved
-pub queue-written : (s : List ℕ) (d : Device) {t : List ℕ} → Bytes s → isState s ≡ true
-    → d ≡ queueMoved (deviceIn s) (d .receive) → t ≡ sets s 32 (four (d .receive) (d .send .tx)) → t ≡ stateBytes d
-queue-written s d g h e w =
-    let r = d .receive in
-    w ∙ ap (λ (u : List ℕ). sets u 32 (four r (d .send .tx))) (sym (state-back s g h))
-    ∙ ap (λ (x : Device). sets (stateBytes (deviceIn s)) 32 (four r (x .send .tx))) e
-    ∙ over (deviceIn s) r ∙ sym (ap stateBytes e)
+  pub transferred-written : (count pending : ℕ) (x : Send) {t0 t1 t2 : List ℕ}
+      → t0 ≡ sets s (receiveAt + 24) (words (count ∷ pending ∷ []))
+      → t1 ≡ sets t0 (sendAt + 8) (words (x .ring .first ∷ x .ring .count ∷ []))
+      → t2 ≡ sets t1 (sendAt + 16) (registerBytes (x .held) (x .message)) → length (x .message .bytes) ≡ 8
+      → t2 ≡ stateBytes (transferred (counted (deviceIn s) count pending) x)
+  unfolding deviceIn
+  transferred-written count pending x e0 e1 e2 m =
+      let l : length (slice 80 88 s) ≡ 8 = length-slice 80 88 s (omega (arith, state-long s h)) in
+      e2 ∙ rw (e1, counted-written count pending e0) (over-transferred (counted (deviceIn s) count pending) x l m)

@@ -1,3 +1,4 @@
 pub mod RoundTrip
 pub mod Laws
+pub mod Judged
 pub mod Moves

@@ -1,4 +1,4 @@
--- A device is kept whole: its 88 bytes stand for it, and the bytes of a state are those of the device that they stand for.
+-- A device is kept whole: its 88 bytes stand for it, and a state's bytes are those of the device that they stand for.
 use mathlib.Core.Path.{_≡_, refl, sym, ap, _∙_}
 use mathlib.Core.List.{List, [], _∷_, _++_}
 use mathlib.Core.Bool.{Bool, true, false}
@@ -16,12 +16,13 @@ use Rattle.common.proofs.Lists.{reads, reads-slice, reads-all}
 use Rattle.common.proofs.Numbers.{number-back, bytes-back}
 use Rattle.recorder.specs.declared.Device.{Device}
 use Rattle.records.proofs.RoundTrip.{reads-bytes}
-use Rattle.kept.specs.State.{numbers, words, stateBytes, word, deviceIn, isState}
+use Rattle.kept.specs.State.{sendAt, numbers, words, stateBytes, word, deviceIn, isState}
 
 -- ---- from a device to its bytes and back
 
--- a number that was written is read
-pub word-words : (ns r : List ℕ) (k : ℕ) → k < length ns → getD ns k 0 < 4294967296 → word (words ns ++ r) k ≡ getD ns k 0
+-- a number that was written is read: number k stands at 4 * k
+pub word-words : (ns r : List ℕ) (k : ℕ) → k < length ns → getD ns k 0 < 4294967296
+    → word (words ns ++ r) (4 * k) ≡ getD ns k 0
 unfolding word
 word-words [] r k h b = absurd (not-suc-le-zero h)
 word-words (n ∷ ns) r zero h b = number-back 4 n b
@@ -35,7 +36,8 @@ held-back true = refl
 held-back false = refl
 
 -- a device of 32-bit numbers, whose register has eight data bytes, comes back
-pub device-back : (d : Device) → ((k : ℕ) → getD (numbers d) k 0 < 4294967296) → length (d .send .message .bytes) ≡ 8 → deviceIn (stateBytes d) ≡ d
+pub device-back : (d : Device) → ((k : ℕ) → getD (numbers d) k 0 < 4294967296) → length (d .send .message .bytes) ≡ 8
+    → deviceIn (stateBytes d) ≡ d
 unfolding deviceIn stateBytes
 device-back d fits long = λ i. record {
   shared = record { mode = w 0 (omega arith) i; format = w 1 (omega arith) i; align = w 2 (omega arith) i };
@@ -50,13 +52,18 @@ device-back d fits long = λ i. record {
     ring = record { capacity = w 12 (omega arith) i; first = w 13 (omega arith) i; count = w 14 (omega arith) i };
     held = (ap (λ (n : ℕ). eqb n 1) (w 15 (omega arith)) ∙ held-back (d .send .held)) i;
     message = record {
-      header = record { id = w 16 (omega arith) i; format = w 17 (omega arith) i; rtr = w 18 (omega arith) i; dlc = w 19 (omega arith) i };
+      header = record {
+        id = w 16 (omega arith) i;
+        format = w 17 (omega arith) i;
+        rtr = w 18 (omega arith) i;
+        dlc = w 19 (omega arith) i;
+      };
       bytes = take-all 8 (d .send .message .bytes) (omega arith) i;
     };
   };
 }
   where
-    w : (k : ℕ) → k < 20 → word (words (numbers d) ++ d .send .message .bytes) k ≡ getD (numbers d) k 0
+    w : (k : ℕ) → k < 20 → word (words (numbers d) ++ d .send .message .bytes) (4 * k) ≡ getD (numbers d) k 0
     w k h = word-words (numbers d) (d .send .message .bytes) k h (fits k)
 
 -- ---- from bytes to their device and back
@@ -64,16 +71,18 @@ device-back d fits long = λ i. record {
 -- n numbers from number k on
 abbrev wordsFrom : List ℕ → ℕ → ℕ → List ℕ
 wordsFrom b k zero = []
-wordsFrom b k (suc n) = word b k ∷ wordsFrom b (suc k) n
+wordsFrom b k (suc n) = word b (4 * k) ∷ wordsFrom b (suc k) n
 
 -- their bytes are those that they were read from
-words-reads : (b : List ℕ) (k n : ℕ) → Bytes b → 4 * k + 4 * n ≤ length b → words (wordsFrom b k n) ≡ reads b (4 * k) (4 * n)
+words-reads : (b : List ℕ) (k n : ℕ) → Bytes b → 4 * k + 4 * n ≤ length b
+    → words (wordsFrom b k n) ≡ reads b (4 * k) (4 * n)
 unfolding word
 words-reads b k zero g h = refl
 words-reads b k (suc n) g h =
     let e : 4 * suc n ≡ suc (suc (suc (suc (4 * n)))) = omega arith in
     let f : 4 * suc k ≡ suc (suc (suc (suc (4 * k)))) = omega arith in
-    let x : bytesOf 4 (word b k) ≡ reads b (4 * k) 4 = rw (← reads-slice b (4 * k) 4 (omega arith)) (bytes-back (reads b (4 * k) 4) (reads-bytes b (4 * k) 4 g)) in
+    let x : bytesOf 4 (word b (4 * k)) ≡ reads b (4 * k) 4 =
+    rw (← reads-slice b (4 * k) 4 (omega arith)) (bytes-back (reads b (4 * k) 4) (reads-bytes b (4 * k) 4 g)) in
     rw (e, ← f) (λ i. x i ++ words-reads b (suc k) n g (omega arith) i)
 
 held-number : (n : ℕ) → n ≤ 1 → pick (eqb n 1) 1 0 ≡ n
@@ -85,6 +94,9 @@ held-number (suc (suc n)) h = absurd (omega arith)
 pub state-back : (b : List ℕ) → Bytes b → isState b ≡ true → stateBytes (deviceIn b) ≡ b
 unfolding deviceIn stateBytes isState
 state-back b g h =
-    let l : length b ≡ 88 = eqb-true (length b) 88 (and-left (eqb (length b) 88) (leb (word b 15) 1) h) in
-    let m : word b 15 ≤ 1 = leb-true (word b 15) 1 (and-right (eqb (length b) 88) (leb (word b 15) 1) h) in
-    rw (held-number (word b 15) m) (λ i. words-reads b 0 20 g (omega arith) i ++ sym (reads-slice b 80 8 (omega arith)) i) ∙ reads-all b 88 l
+    let held = word b (sendAt + 16) in
+    let l : length b ≡ 88 = eqb-true (length b) 88 (and-left (eqb (length b) 88) (leb held 1) h) in
+    let m : held ≤ 1 = leb-true held 1 (and-right (eqb (length b) 88) (leb held 1) h) in
+    rw (held-number held m)
+    (λ i. words-reads b 0 20 g (omega arith) i ++ sym (reads-slice b 80 8 (omega arith)) i)
+    ∙ reads-all b 88 l

@@ -19,4 +19,5 @@ pub record Left (number : ℕ) (d : Device) (s : List ℕ) (n : ℕ) (state : Li
 
 -- a message as a call is given it
 abbrev pub message : ℕ → ℕ → ℕ → ℕ → List ℕ → Message
-message id format rtr dlc bytes = record { header = record { id = id; format = format; rtr = rtr; dlc = dlc }; bytes = bytes }
+message id format rtr dlc bytes =
+    record { header = record { id = id; format = format; rtr = rtr; dlc = dlc }; bytes = bytes }

@@ -1,5 +1,5 @@
--- The device kept in 88 bytes: their layout, the device that they stand for, and which bytes are a state.
-use Prim.Native.Nat.{ℕ, _+_, _*_}
+-- The device kept in 88 bytes, part by part: what all channels share, the receive channel, the send channel.
+use Prim.Native.Nat.{ℕ, _+_}
 use mathlib.Core.Bool.{Bool, _&&_}
 use mathlib.Core.List.{List, [], _∷_, _++_}
 use lib.ListN.{length}
@@ -7,74 +7,120 @@ use lib.Seq.{slice}
 use lib.Dec.{leb, eqb}
 use Rattle.common.specs.Choice.{pick}
 use Rattle.common.specs.Numbers.{bytesOf, numberOf}
+use Rattle.records.specs.declared.Message.{Message}
 use Rattle.settings.specs.declared.Shared.{Shared}
 use Rattle.inbox.specs.Channel.{moved}
 use Rattle.inbox.specs.declared.Receive.{Receive}
 use Rattle.outbox.specs.declared.Send.{Send}
-use Rattle.recorder.specs.State.{withReceive}
+use Rattle.recorder.specs.State.{good, withReceive, withSend}
 use Rattle.recorder.specs.declared.Device.{Device}
 
--- the bytes of a state: twenty numbers of four bytes, then the register's eight data bytes
+-- ---- the layout
+
+-- the numbers of each part, in their order; whether the register holds a message is 1 or 0
+abbrev pub sharedNumbers : Shared → List ℕ
+sharedNumbers h = h .mode ∷ h .format ∷ h .align ∷ []
+
+abbrev pub receiveNumbers : Receive → List ℕ
+receiveNumbers r =
+    r .filter .active ∷ r .filter .code ∷ r .filter .mask ∷ r .events
+    ∷ r .ring .capacity ∷ r .ring .first ∷ r .ring .count ∷ r .pending ∷ []
+
+abbrev pub registerNumbers : Bool → Message → List ℕ
+registerNumbers held m = pick held 1 0 ∷ m .header .id ∷ m .header .format ∷ m .header .rtr ∷ m .header .dlc ∷ []
+
+abbrev pub sendNumbers : Send → List ℕ
+sendNumbers s = s .tx ∷ s .ring .capacity ∷ s .ring .first ∷ s .ring .count ∷ registerNumbers (s .held) (s .message)
+
+-- the bytes of a state, and where its second and third part begin
 abbrev pub stateSize : ℕ
 stateSize = 88
 
--- the first twelve numbers, in their order
-abbrev pub front : Shared → Receive → ℕ → List ℕ
-front s r tx =
-    s .mode ∷ s .format ∷ s .align
-    ∷ r .filter .active ∷ r .filter .code ∷ r .filter .mask ∷ r .events ∷ r .ring .capacity ∷ r .ring .first ∷ r .ring .count ∷ r .pending
-    ∷ tx ∷ []
+abbrev pub receiveAt : ℕ
+receiveAt = 12
 
--- the other eight; whether the register holds a message is 1 or 0
-abbrev pub rest : Send → List ℕ
-rest s =
-    s .ring .capacity ∷ s .ring .first ∷ s .ring .count
-    ∷ pick (s .held) 1 0 ∷ s .message .header .id ∷ s .message .header .format ∷ s .message .header .rtr ∷ s .message .header .dlc
-    ∷ []
-
--- all twenty
-abbrev pub numbers : Device → List ℕ
-numbers d = front (d .shared) (d .receive) (d .send .tx) ++ rest (d .send)
+abbrev pub sendAt : ℕ
+sendAt = 44
 
 -- numbers one behind the other, each as four bytes, lowest first
 abbrev pub words : List ℕ → List ℕ
 words [] = []
 words (n ∷ ns) = bytesOf 4 n ++ words ns
 
--- a device's 88 bytes
+-- the register's bytes: its numbers, then the message's eight data bytes
+abbrev pub registerBytes : Bool → Message → List ℕ
+registerBytes held m = words (registerNumbers held m) ++ m .bytes
+
+-- all twenty numbers
+abbrev pub numbers : Device → List ℕ
+numbers d = sharedNumbers (d .shared) ++ receiveNumbers (d .receive) ++ sendNumbers (d .send)
+
+-- a device's 88 bytes: its numbers, then the register's eight data bytes
 unfoldable pub stateBytes : Device → List ℕ
 stateBytes d = words (numbers d) ++ d .send .message .bytes
 
--- number k of a state, counted from 0
-unfoldable pub word : List ℕ → ℕ → ℕ
-word s k = numberOf (slice (4 * k) (4 * k + 4) s)
+-- ---- the device that bytes stand for
 
--- the device that 88 bytes stand for
-unfoldable pub deviceIn : List ℕ → Device
-deviceIn s = record {
-  shared = record { mode = word s 0; format = word s 1; align = word s 2 };
-  receive = record {
-    filter = record { active = word s 3; code = word s 4; mask = word s 5 };
-    events = word s 6;
-    ring = record { capacity = word s 7; first = word s 8; count = word s 9 };
-    pending = word s 10;
-  };
-  send = record {
-    tx = word s 11;
-    ring = record { capacity = word s 12; first = word s 13; count = word s 14 };
-    held = eqb (word s 15) 1;
-    message = record {
-      header = record { id = word s 16; format = word s 17; rtr = word s 18; dlc = word s 19 };
-      bytes = slice 80 88 s;
-    };
-  };
+-- the number in the four bytes from `at` on
+unfoldable pub word : List ℕ → ℕ → ℕ
+word s at = numberOf (slice at (at + 4) s)
+
+-- each part, from `at` on
+abbrev pub sharedIn : List ℕ → ℕ → Shared
+sharedIn s at = record { mode = word s at; format = word s (at + 4); align = word s (at + 8) }
+
+abbrev pub receiveIn : List ℕ → ℕ → Receive
+receiveIn s at = record {
+  filter = record { active = word s at; code = word s (at + 4); mask = word s (at + 8) };
+  events = word s (at + 12);
+  ring = record { capacity = word s (at + 16); first = word s (at + 20); count = word s (at + 24) };
+  pending = word s (at + 28);
 }
 
--- bytes that are a state: 88 of them, and the register held or not; what else no device can have is the recorder's to judge
-unfoldable pub isState : List ℕ → Bool
-isState s = eqb (length s) stateSize && leb (word s 15) 1
+abbrev pub registerIn : List ℕ → ℕ → Message
+registerIn s at = record {
+  header = record { id = word s at; format = word s (at + 4); rtr = word s (at + 8); dlc = word s (at + 12) };
+  bytes = slice (at + 16) (at + 24) s;
+}
 
--- the device with its event queue moved: first, count and pending of another
-abbrev pub queueMoved : Device → Receive → Device
-queueMoved d r =
-    withReceive d (moved (d .receive) (record { capacity = d .receive .ring .capacity; first = r .ring .first; count = r .ring .count }) (r .pending))
+abbrev pub sendIn : List ℕ → ℕ → Send
+sendIn s at = record {
+  tx = word s at;
+  ring = record { capacity = word s (at + 4); first = word s (at + 8); count = word s (at + 12) };
+  held = eqb (word s (at + 16)) 1;
+  message = registerIn s (at + 20);
+}
+
+unfoldable pub deviceIn : List ℕ → Device
+deviceIn s = record { shared = sharedIn s 0; receive = receiveIn s receiveAt; send = sendIn s sendAt }
+
+-- bytes that are a state: 88 of them, and the register held or not; all else is the recorder's to judge
+unfoldable pub isState : List ℕ → Bool
+isState s = eqb (length s) stateSize && leb (word s (sendAt + 16)) 1
+
+-- and that device is possible
+unfoldable pub isPossible : List ℕ → Bool
+isPossible s = isState s && good (deviceIn s)
+
+-- ---- what a call moves
+
+-- the device with another count and pending lost count of its queue: what a raise can change
+abbrev pub counted : Device → ℕ → ℕ → Device
+counted d count pending =
+    let r = d .receive in
+    withReceive d (moved r (record { capacity = r .ring .capacity; first = r .ring .first; count = count }) pending)
+
+-- with another first and count: what a read can change
+abbrev pub advanced : Device → ℕ → ℕ → Device
+advanced d first count =
+    let r = d .receive in
+    withReceive d (moved r (record { capacity = r .ring .capacity; first = first; count = count }) (r .pending))
+
+-- with the first, count and register of another send channel: what take, done and abort can change there
+abbrev pub transferred : Device → Send → Device
+transferred d s = withSend d (record {
+  tx = d .send .tx;
+  ring = record { capacity = d .send .ring .capacity; first = s .ring .first; count = s .ring .count };
+  held = s .held;
+  message = s .message;
+})

@@ -1,13 +1,16 @@
 // What a call hands over and leaves: the next device and its values, unless it was refused; and its message.
+use crate::parts;
 use crate::state;
+use crate::words;
 use ids::Header;
+use outbox::Send;
 use recorder::Device;
 use records::Message;
 ghost use mathlib.Core.Path.{_≡_};
 ghost use mathlib.Core.Bool.{true};
 ghost use lib.ListN.{length};
 ghost use Rattle.common.specs.Refusals.{isRefusal};
-ghost use Rattle.kept.specs.State.{deviceIn, isState, queueMoved};
+ghost use Rattle.kept.specs.State.{stateSize, deviceIn, isState, counted, advanced, transferred};
 ghost use Rattle.kept.specs.Handing.{left, Left, message};
 
 // The refusals are the numbers 1 to 99.
@@ -22,7 +25,7 @@ fn is_refusal(number: u32) -> bool
 
 // Writes the next device into the state, unless the call was refused; answers the call's number.
 pub fn leave(state: &mut [u8], number: u32, d: Device) -> u32
-    requires { ⌜ length (now state) ≡ 88 ⌝ }
+    requires { ⌜ length (now state) ≡ stateSize ⌝ }
     ensures { λ n. ⌜ Left number d (now (state .entry)) n (now (state .exit)) ⌝ }
 {
     if is_refusal(number) {
@@ -32,15 +35,46 @@ pub fn leave(state: &mut [u8], number: u32, d: Device) -> u32
     number
 }
 
-// The same after a raise or a read, which move the event queue alone.
-pub fn leave_queue(state: &mut [u8], number: u32, d: Device) -> u32
-    requires { ⌜ (isState (now state) ≡ true) × (d ≡ queueMoved (deviceIn (now state)) (d .receive)) ⌝ }
-    ensures { λ n. ⌜ Left number d (now (state .entry)) n (now (state .exit)) ⌝ }
+// The same after a raise, which can change count and pending of the queue alone.
+pub fn leave_counted(state: &mut [u8], number: u32, count: u32, pending: u32) -> u32
+    requires { ⌜ isState (now state) ≡ true ⌝ }
+    ensures { λ n. ⌜ Left number (counted (deviceIn (now (state .entry))) count pending)
+        (now (state .entry)) n (now (state .exit)) ⌝ }
 {
     if is_refusal(number) {
         return number;
     }
-    state::write_queue(state, d);
+    words::write_two(state, state::RECEIVE + 24, count, pending);
+    number
+}
+
+// The same after a read, which changes first and count of the queue.
+pub fn leave_advanced(state: &mut [u8], number: u32, first: u32, count: u32) -> u32
+    requires { ⌜ isState (now state) ≡ true ⌝ }
+    ensures { λ n. ⌜ Left number (advanced (deviceIn (now (state .entry))) first count)
+        (now (state .entry)) n (now (state .exit)) ⌝ }
+{
+    if is_refusal(number) {
+        return number;
+    }
+    words::write_two(state, state::RECEIVE + 20, first, count);
+    number
+}
+
+// The same after take, done and abort: count and pending of the queue; first, count and register of the send channel.
+pub fn leave_transferred(state: &mut [u8], number: u32, count: u32, pending: u32, s: Send) -> u32
+    requires { ⌜ isState (now state) ≡ true ⌝ }
+    ensures { λ n. ⌜ Left number (transferred (counted (deviceIn (now (state .entry))) count pending) s)
+        (now (state .entry)) n (now (state .exit)) ⌝ }
+{
+    if is_refusal(number) {
+        return number;
+    }
+    let ring = s.ring;
+    let m = s.message;
+    words::write_two(state, state::RECEIVE + 24, count, pending);
+    words::write_two(state, state::SEND + 8, ring.first, ring.count);
+    parts::write_register(state, state::SEND + 16, s.held, m);
     number
 }
 

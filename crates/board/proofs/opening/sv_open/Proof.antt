@@ -1,46 +1,41 @@
-use Rattle.board.proofs.Ways.{open-refused, open-unkept, open-kept}
-use Rattle.board.specs.Board.{settings}
-use Rattle.recorder.specs.Outcomes.{lends}
-use mathlib.Core.List.{[]}
-use denote.Ref.{now}
+use Rattle.board.proofs.Ways.{open-miscounted, open-refused, open-unkept, open-kept}
 use borrow.Author.Needs.{needs}
 use Rattle.board.proofs.opening.sv_open.Statement.{statement}
 use Rattle.board.proofs.opening.sv_open.Tie as tie
 
-open-requires : tie.Need-open-requires
-open-requires c κs = search needs
-
 returns : tie.Need-returns
-returns c =
-    let a = c .before .before .before .before .before .before .args in
-    let opened = c .before .before .«open» in
-    open-refused (settings (a .mode) (a .format) (a .align) (a .active) (a .code) (a .mask) (a .events) (a .slots) (a .tx) (a .places)) (now (a .state))
-    (lends (now (a .queue)) (now (a .send)) []) (opened .ensures) (c .if1 .taken)
+returns c = open-miscounted _ _ _ (c .if1 .taken)
 
 returns-2 : tie.Need-returns-2
 returns-2 c =
-    let a = c .before .before .before .before .before .before .before .args in
-    let opened = c .before .before .before .«open» in
-    open-unkept (settings (a .mode) (a .format) (a .align) (a .active) (a .code) (a .mask) (a .events) (a .slots) (a .tx) (a .places)) (now (a .state))
-    (lends (now (a .queue)) (now (a .send)) []) (opened .ensures) (c .before .if1 .left) (c .if2 .taken)
-
-write-state-requires : tie.Need-write-state-requires
-write-state-requires c κs = search needs
-
-same-length : tie.Need-same-length
-same-length c = search needs
+    let past = c .before .before in
+    let read = past .before .settings-in in
+    open-refused _ _ _ (past .before .before .if1 .left) (read .ensures) (past .«open» .ensures) (c .if2 .taken)
 
 returns-3 : tie.Need-returns-3
 returns-3 c =
-    let past = c .before .before .before .before .before .before .before .before in
-    let a = past .before .before .before .before .args in
-    let opened = past .«open» in
-    let if1 = c .before .before .before .before .before .before .if1 in
-    let if2 = c .before .before .before .before .before .if2 in
-    let write-state = c .before .before .write-state in
-    open-kept (settings (a .mode) (a .format) (a .align) (a .active) (a .code) (a .mask) (a .events) (a .slots) (a .tx) (a .places)) (now (a .state))
-    (lends (now (a .queue)) (now (a .send)) []) (opened .ensures) (if1 .left) (if2 .left) (write-state .ensures)
+    let past = c .before .before .before in
+    let read = past .before .settings-in in
+    open-unkept _ _ _ (past .before .before .if1 .left) (read .ensures) (past .«open» .ensures) (c .before .if2 .left)
+    (c .if3 .taken)
+
+returns-4 : tie.Need-returns-4
+returns-4 c =
+    let tested = c .before .before .before .before .before in
+    let past = tested .before .before .before in
+    let read = past .before .settings-in in
+    open-kept _ _ _ (past .before .before .if1 .left) (read .ensures) (past .«open» .ensures)
+    (tested .before .if2 .left) (tested .if3 .left) (c .before .before .write-state .ensures)
 
 pub sv-open-spec : {M : Type 1} → statement M
 sv-open-spec =
-    tie.close (tie.spec open-requires returns returns-2 write-state-requires same-length returns-3)
+    tie.close
+    (tie.spec
+    returns
+    (λ c κs. search needs)
+    (λ c κs. search needs)
+    returns-2
+    returns-3
+    (λ c κs. search needs)
+    (λ c. search needs)
+    returns-4)

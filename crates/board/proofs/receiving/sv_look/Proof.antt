@@ -1,4 +1,4 @@
-use Rattle.board.proofs.Ways.{not-look, look-taken, look-refused, look-shown}
+use Rattle.board.proofs.Ways.{not-with, look-taken, look-refused, look-shown}
 use Rattle.inbox.proofs.Laws.{ring-of, look-good}
 use native.Mathlib.Omega.{arith}
 use Rattle.kept.proofs.Laws.{state-long}
@@ -10,28 +10,19 @@ use borrow.Author.Needs.{needs}
 use Rattle.board.proofs.receiving.sv_look.Statement.{statement}
 use Rattle.board.proofs.receiving.sv_look.Tie as tie
 
-is-state-requires : tie.Need-is-state-requires
-is-state-requires c κs = search needs
-
 returns : tie.Need-returns
-returns c =
-    let a = c .before .before .before .before .args in
-    not-look (a .p) (now (a .state)) (now (a .queue)) (now (a .offset)) (denied (c .before .is-state .ensures) (c .if1 .taken))
+returns c = not-with _ _ _ (denied (c .before .is-state .ensures) (c .if1 .taken))
 
 device-in-requires : tie.Need-device-in-requires
 device-in-requires c κs = state-long _ (said (c .before .is-state .ensures) (c .if1 .left))
 
-look-number-requires : tie.Need-look-number-requires
-look-number-requires c κs = search needs
-
 returns-2 : tie.Need-returns-2
 returns-2 c =
-    let a = c .before .before .before .before .before .before .before .args in
-    let is-state = c .before .before .before .before .is-state in
-    let if1 = c .before .before .before .if1 in
+    let past = c .before .before .before in
+    let known = past .before .before .before .shared-slice-known in
     let device-in = c .before .before .device-in in
-    look-refused (a .p) (now (a .state)) (now (a .queue)) (said (is-state .ensures) (if1 .left)) (device-in .ensures) _ (c .before .look-number .ensures) (now (a .offset))
-    (c .if2 .taken)
+    look-refused _ (λ i. known .given i .fits) (said (past .before .is-state .ensures) (past .if1 .left))
+    (device-in .ensures) _ _ (c .before .look-number .ensures) (c .if2 .taken)
 
 slot-of-requires : tie.Need-slot-of-requires
 slot-of-requires c κs =
@@ -45,34 +36,26 @@ slot-of-requires c κs =
     let f = ring-of (d .receive) (g .0) in
     (f .within, f .first-in, omega (arith, f .count-in, g .1))
 
-cast-offset : tie.Need-cast-offset
-cast-offset c = search needs
-
-mul-offset : tie.Need-mul-offset
-mul-offset c = search needs
-
 returns-3 : tie.Need-returns-3
 returns-3 c =
-    let past = c .before .before .before .before .before .before .before in
-    let a = past .before .before .before .args in
-    let is-state = past .is-state in
-    let if1 = c .before .before .before .before .before .before .if1 in
+    let past = c .before .before .before .before .before .before in
+    let known = past .before .before .before .shared-slice-known in
     let device-in = c .before .before .before .before .before .device-in in
     let look-number = c .before .before .before .before .look-number in
     let if2 = c .before .before .before .if2 in
-    look-shown (a .p) (now (a .state)) (now (a .queue)) (said (is-state .ensures) (if1 .left)) (device-in .ensures) _ (look-number .ensures) (now (a .offset)) _ (if2 .left)
-    (c .slot-of .ensures)
+    look-shown _ (λ i. known .given i .fits) (said (past .before .is-state .ensures) (past .if1 .left))
+    (device-in .ensures) _ _ (look-number .ensures) (if2 .left) (c .slot-of .ensures)
 
 pub sv-look-spec : {M : Type 1} → statement M
 sv-look-spec =
     tie.close
     (tie.spec
-    is-state-requires
+    (λ c κs. search needs)
     returns
     device-in-requires
-    look-number-requires
+    (λ c κs. search needs)
     returns-2
     slot-of-requires
-    cast-offset
-    mul-offset
+    (λ c. search needs)
+    (λ c. search needs)
     returns-3)

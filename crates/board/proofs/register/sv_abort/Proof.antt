@@ -1,72 +1,50 @@
-use Rattle.board.proofs.Ways.{not-abort, abort-called}
-use Rattle.recorder.specs.Sending.{aborted}
-use Rattle.kept.proofs.Laws.{state-long}
-use Rattle.recorder.specs.Outcomes.{lends}
-use Rattle.common.proofs.Bools.{said, denied}
 use mathlib.Core.List.{[]}
 use denote.Ref.{now}
+use Rattle.recorder.specs.Outcomes.{lends}
+use Rattle.recorder.specs.Sending.{aborted}
+use Rattle.kept.proofs.Moves.{abort-moves, answer-transferred}
+use Rattle.board.proofs.Ways.{not-with, abort-called}
+use Rattle.kept.proofs.Laws.{state-long}
+use Rattle.common.proofs.Bools.{said, denied}
 use borrow.Author.Needs.{needs}
 use Rattle.board.proofs.register.sv_abort.Statement.{statement}
 use Rattle.board.proofs.register.sv_abort.Tie as tie
 
-is-state-requires : tie.Need-is-state-requires
-is-state-requires c κs = search needs
-
-same-length : tie.Need-same-length
-same-length c = search needs
-
 returns : tie.Need-returns
-returns c =
-    let a = c .before .before .before .before .before .args in
-    not-abort (aborted (a .tick)) (now (a .state)) (lends (now (a .queue)) [] []) (denied (c .before .is-state .ensures) (c .if1 .taken)) (now (a .purged))
+returns c = not-with _ _ _ (denied (c .before .is-state .ensures) (c .if1 .taken))
 
 device-in-requires : tie.Need-device-in-requires
 device-in-requires c κs = state-long _ (said (c .before .before .is-state .ensures) (c .before .if1 .left))
 
-abort-requires : tie.Need-abort-requires
-abort-requires c κs = search needs
-
-hand-number-requires : tie.Need-hand-number-requires
-hand-number-requires c κs = search needs
-
-leave-requires : tie.Need-leave-requires
-leave-requires c κs =
-    let past = c .before .before .before .before .before .before .before .before .before .before .before in
-    let is-state = past .before .is-state in
-    let if1 = past .if1 in
-    state-long _ (said (is-state .ensures) (if1 .left))
-
-same-length-2 : tie.Need-same-length-2
-same-length-2 c = search needs
-
-same-length-3 : tie.Need-same-length-3
-same-length-3 c = search needs
+leave-transferred-requires : tie.Need-leave-transferred-requires
+leave-transferred-requires c κs =
+    let test = c .before .before .before .before .before .before .before .before .before .before .before .before .before .before in
+    said (test .before .is-state .ensures) (test .if1 .left)
 
 returns-2 : tie.Need-returns-2
 returns-2 c =
-    let past = c .before .before .before .before .before .before .before .before in
-    let older = past .before .before .before .before .before .before in
-    let a = older .before .before .before .before .before .args in
-    let is-state = older .before .is-state in
-    let if1 = older .if1 in
-    let device-in = past .before .before .before .before .device-in in
-    let abort = past .abort in
-    let hand-number = c .before .before .before .before .hand-number in
-    let leave = c .before .before .leave in
-    abort-called (a .tick) (now (a .state)) (lends (now (a .queue)) [] []) (said (is-state .ensures) (if1 .left)) (device-in .ensures) (abort .ensures) (hand-number .ensures)
-    (leave .ensures)
+    let past = c .before .before .before .before .before .before .before .before .before .before .before .before .before .before .before in
+    let test = past .before .before in
+    let a = test .before .before .before .before .before .args in
+    let d = past .device-in .result in
+    let l = lends (now (a .queue)) [] [] in
+    let abort = c .before .before .before .before .before .before .before .before .before .before .before .abort .ensures in
+    let left = answer-transferred (now (a .state)) (past .device-in .ensures) (aborted (a .tick) d l)
+    (abort-moves d l (a .tick)) (abort .answer) (c .before .before .leave-transferred .ensures) in
+    abort-called _ (said (test .before .is-state .ensures) (test .if1 .left)) (past .device-in .ensures)
+    _ _ left abort (c .before .before .before .before .before .before .before .hand-number .ensures)
 
 pub sv-abort-spec : {M : Type 1} → statement M
 sv-abort-spec =
     tie.close
     (tie.spec
-    is-state-requires
-    same-length
+    (λ c κs. search needs)
+    (λ c. search needs)
     returns
     device-in-requires
-    abort-requires
-    hand-number-requires
-    leave-requires
-    same-length-2
-    same-length-3
+    (λ c κs. search needs)
+    (λ c κs. search needs)
+    leave-transferred-requires
+    (λ c. search needs)
+    (λ c. search needs)
     returns-2)

@@ -1,71 +1,50 @@
-use Rattle.board.proofs.Ways.{not-take, take-called}
-use Rattle.recorder.specs.Sending.{taken}
-use Rattle.kept.proofs.Laws.{state-long}
-use Rattle.recorder.specs.Outcomes.{lends}
-use Rattle.common.proofs.Bools.{said, denied}
 use mathlib.Core.List.{[]}
 use denote.Ref.{now}
+use Rattle.recorder.specs.Outcomes.{lends}
+use Rattle.recorder.specs.Sending.{taken}
+use Rattle.kept.proofs.Moves.{take-moves, taken-transferred}
+use Rattle.board.proofs.Ways.{not-with, take-called}
+use Rattle.kept.proofs.Laws.{state-long}
+use Rattle.common.proofs.Bools.{said, denied}
 use borrow.Author.Needs.{needs}
 use Rattle.board.proofs.register.sv_take.Statement.{statement}
 use Rattle.board.proofs.register.sv_take.Tie as tie
 
-is-state-requires : tie.Need-is-state-requires
-is-state-requires c κs = search needs
-
-same-length : tie.Need-same-length
-same-length c = search needs
-
 returns : tie.Need-returns
-returns c =
-    let a = c .before .before .before .before .before .before .args in
-    not-take (taken (a .tick)) (now (a .state)) (lends (now (a .queue)) (now (a .send)) []) (denied (c .before .is-state .ensures) (c .if1 .taken)) (now (a .out))
+returns c = not-with _ _ _ (denied (c .before .is-state .ensures) (c .if1 .taken))
 
 device-in-requires : tie.Need-device-in-requires
 device-in-requires c κs = state-long _ (said (c .before .before .is-state .ensures) (c .before .if1 .left))
 
-take-requires : tie.Need-take-requires
-take-requires c κs = search needs
-
-hand-message-requires : tie.Need-hand-message-requires
-hand-message-requires c κs = search needs
-
-leave-requires : tie.Need-leave-requires
-leave-requires c κs =
-    let past = c .before .before .before .before .before .before .before .before .before .before in
-    let is-state = past .before .is-state in
-    let if1 = past .if1 in
-    state-long _ (said (is-state .ensures) (if1 .left))
-
-same-length-2 : tie.Need-same-length-2
-same-length-2 c = search needs
-
-same-length-3 : tie.Need-same-length-3
-same-length-3 c = search needs
+leave-transferred-requires : tie.Need-leave-transferred-requires
+leave-transferred-requires c κs =
+    let test = c .before .before .before .before .before .before .before .before .before .before .before .before .before in
+    said (test .before .is-state .ensures) (test .if1 .left)
 
 returns-2 : tie.Need-returns-2
 returns-2 c =
-    let past = c .before .before .before .before .before .before .before .before .before in
-    let a = past .before .before .before .before .before .before .before .before .before .before .args in
-    let is-state = past .before .before .before .before .before .is-state in
-    let if1 = past .before .before .before .before .if1 in
-    let device-in = past .before .before .device-in in
-    let take = past .take in
-    let hand-message = c .before .before .before .before .hand-message in
-    let leave = c .before .before .leave in
-    take-called (taken (a .tick)) (now (a .state)) (lends (now (a .queue)) (now (a .send)) []) (said (is-state .ensures) (if1 .left)) (device-in .ensures) (take .ensures)
-    (hand-message .ensures) (leave .ensures)
+    let past = c .before .before .before .before .before .before .before .before .before .before .before .before .before .before in
+    let test = past .before .before in
+    let a = test .before .before .before .before .before .before .args in
+    let d = past .device-in .result in
+    let l = lends (now (a .queue)) (now (a .send)) [] in
+    let take = c .before .before .before .before .before .before .before .before .before .before .before .before .take .ensures in
+    let left = taken-transferred (now (a .state)) (past .device-in .ensures) (taken (a .tick) d l)
+    (take-moves d l (a .tick)) (take .answer) (c .before .before .leave-transferred .ensures) in
+    take-called _ (said (test .before .is-state .ensures) (test .if1 .left)) (past .device-in .ensures)
+    _ _ left take (c .before .before .before .before .before .before .before .hand-message .ensures)
 
 pub sv-take-spec : {M : Type 1} → statement M
 sv-take-spec =
     tie.close
     (tie.spec
-    is-state-requires
-    same-length
+    (λ c κs. search needs)
+    (λ c. search needs)
     returns
     device-in-requires
-    take-requires
-    hand-message-requires
-    leave-requires
-    same-length-2
-    same-length-3
+    (λ c κs. search needs)
+    (λ c κs. search needs)
+    leave-transferred-requires
+    (λ c. search needs)
+    (λ c. search needs)
     returns-2)
