@@ -67,6 +67,22 @@ static void drain(void) {
     }
 }
 
+static void open_with(const char *what, size_t length, size_t count) {
+    const struct sv_settings settings = {
+        .mode = SV_CAN_20A,
+        .format = SV_DEFAULT,
+        .align = 0,
+        .mask_active = 0,
+        .code = 0,
+        .mask = 0xFFFFFFFF,
+        .event_mask = 0xFFF,
+        .queue_capacity = EVENTS,
+        .tx_mode = SV_TX_AT_DONE,
+        .buffer_capacity = MESSAGES,
+    };
+    say(what, sv_open(state, length, &settings, count, queue, sizeof queue, buffer, sizeof buffer));
+}
+
 int main(void) {
     const uint8_t data[8] = {0x11, 0x22, 0x33, 0x44, 0x55, 0x66, 0x77, 0x88};
     uint8_t before[SV_STATE];
@@ -75,8 +91,9 @@ int main(void) {
     uint32_t count = 0, purged = 0;
 
     say("raise before open", sv_raise(state, sizeof state, 4, 0, 0, 0, 0, 0, data, queue, sizeof queue));
-    say("open, short state", sv_open(state, sizeof state - 1, 0, 0, 0, 0, 0, 0xFFFFFFFF, 0xFFF, EVENTS, 7, MESSAGES, queue, sizeof queue, buffer, sizeof buffer));
-    say("open", sv_open(state, sizeof state, 0, 0, 0, 0, 0, 0xFFFFFFFF, 0xFFF, EVENTS, 7, MESSAGES, queue, sizeof queue, buffer, sizeof buffer));
+    open_with("open, short state", sizeof state - 1, SV_SETTINGS);
+    open_with("open, nine settings", sizeof state, SV_SETTINGS - 1);
+    open_with("open", sizeof state, SV_SETTINGS);
 
     raise(1, 12568, 0x112, 5, data);
     memcpy(before, state, sizeof state);

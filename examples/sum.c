@@ -58,7 +58,14 @@ static void check(void) {
 }
 
 int main(void) {
-    if (sv_open(state, sizeof state, 0, 0, 0, 0, 0, 0xFFFFFFFF, 0xFFF, EVENTS, 1, MESSAGES, queue, sizeof queue, buffer, sizeof buffer) != 0) return 1;
+    const struct sv_settings settings = {
+        .mask = 0xFFFFFFFF,
+        .event_mask = 0xFFF,
+        .queue_capacity = EVENTS,
+        .tx_mode = SV_TX_SILENT,
+        .buffer_capacity = MESSAGES,
+    };
+    if (sv_open(state, sizeof state, &settings, SV_SETTINGS, queue, sizeof queue, buffer, sizeof buffer) != 0) return 1;
     raise(9, 100);
     raise(10, 101);
     raise(11, 102);

@@ -9,7 +9,7 @@
  * byte of the state, of the tables and of the buffers, and every value behind a pointer, as it was. The one exception is
  * `used` of sv_send_text, which is written at every call.
  *
- *    1  a setting outside its range            8  bad identifier
+ *    1  a setting missing or out of range      8  bad identifier
  *    2  no state, or a table too short         9  rtr above 1
  *    3  output room too short                 10  dlc above 15
  *    4  nothing to read, look at, take        11  more than eight data values
@@ -45,7 +45,7 @@ extern "C" {
 #endif
 
 /* The version of this interface: it changes when a size, a place or a call does. */
-enum { SV_VERSION = 1 };
+enum { SV_VERSION = 2 };
 
 /* Bytes of a state, of an event, of a message; room that a line of text needs, whatever the line. */
 enum { SV_STATE = 88, SV_EVENT = 32, SV_MESSAGE = 16, SV_EVENT_ROOM = 80, SV_MESSAGE_ROOM = 37 };
@@ -100,12 +100,32 @@ enum { SV_AT_EVENT_MASK = 24, SV_AT_QUEUE_COUNT = 36, SV_AT_PENDING = 40, SV_AT_
 
 /* ---- opening */
 
-/* Opens a device into the state: both rings empty. Writes no byte of the tables.
- * Refusals: 1; 2 also for a state of another length than SV_STATE. */
-uint32_t sv_open(uint8_t *state, size_t state_length, uint32_t mode, uint32_t format, uint32_t align,
-                 uint32_t mask_active, uint32_t code, uint32_t mask, uint32_t event_mask, uint32_t queue_capacity,
-                 uint32_t tx_mode, uint32_t buffer_capacity, const uint8_t *queue, size_t queue_length,
-                 const uint8_t *send, size_t send_length);
+/* How many numbers the settings are. */
+enum { SV_SETTINGS = 10 };
+
+/* What a device is opened with; docs/GUIDE.md has the ranges. A plain array of SV_SETTINGS uint32_t numbers in this
+ * order is the same thing: what sv_open is lent is a pointer to such numbers and their count. */
+struct sv_settings {
+    uint32_t mode;
+    uint32_t format;
+    uint32_t align;
+    uint32_t mask_active;
+    uint32_t code;
+    uint32_t mask;
+    uint32_t event_mask;
+    uint32_t queue_capacity;
+    uint32_t tx_mode;
+    uint32_t buffer_capacity;
+};
+
+/* Does not compile where the struct is not those numbers, one behind the other. */
+typedef char sv_settings_checked[sizeof(struct sv_settings) == 4 * SV_SETTINGS ? 1 : -1];
+
+/* Opens a device into the state: both rings empty. Writes no byte of the tables. settings_count is SV_SETTINGS, so a
+ * caller that was built against a header with fewer settings is refused, and nothing is read past their end.
+ * Refusals: 1, also for another settings_count; 2, also for a state of another length than SV_STATE. */
+uint32_t sv_open(uint8_t *state, size_t state_length, const struct sv_settings *settings, size_t settings_count,
+                 const uint8_t *queue, size_t queue_length, const uint8_t *send, size_t send_length);
 
 /* ---- changes of setting */
 

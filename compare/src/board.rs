@@ -10,16 +10,8 @@ extern "C" {
     fn sv_open(
         state: BytesMut,
         state_length: usize,
-        mode: u32,
-        format: u32,
-        align: u32,
-        mask_active: u32,
-        code: u32,
-        mask: u32,
-        event_mask: u32,
-        queue_capacity: u32,
-        tx_mode: u32,
-        buffer_capacity: u32,
+        settings: *const u32,
+        settings_count: usize,
         queue: Bytes,
         queue_length: usize,
         send: Bytes,
@@ -115,20 +107,24 @@ extern "C" {
 // Each function below hands whole slices on, so what the header asks of its caller holds.
 
 pub fn open(state: &mut [u8], given: &Settings, queue: &[u8], send: &[u8]) -> u32 {
+    let settings = [
+        given.mode,
+        given.format,
+        given.align,
+        given.mask_active,
+        given.code,
+        given.mask,
+        given.event_mask,
+        given.queue_capacity,
+        given.tx_mode,
+        given.send_capacity,
+    ];
     unsafe {
         sv_open(
             state.as_mut_ptr(),
             state.len(),
-            given.mode,
-            given.format,
-            given.align,
-            given.mask_active,
-            given.code,
-            given.mask,
-            given.event_mask,
-            given.queue_capacity,
-            given.tx_mode,
-            given.send_capacity,
+            settings.as_ptr(),
+            settings.len(),
             queue.as_ptr(),
             queue.len(),
             send.as_ptr(),

@@ -1,10 +1,11 @@
 use Rattle.board.proofs.Ways.{open-miscounted, open-refused, open-unkept, open-kept}
+use denote.Ref.{now}
 use borrow.Author.Needs.{needs}
 use Rattle.board.proofs.opening.sv_open.Statement.{statement}
 use Rattle.board.proofs.opening.sv_open.Tie as tie
 
 returns : tie.Need-returns
-returns c = open-miscounted _ _ _ (c .if1 .taken)
+returns c = open-miscounted (now (c .before .before .before .before .before .args .settings)) _ _ (c .if1 .taken)
 
 returns-2 : tie.Need-returns-2
 returns-2 c =
