@@ -5,7 +5,7 @@ use crate::draw::Draw;
 use crate::making;
 use crate::mood::Mood;
 use crate::sides::Sides;
-use crate::state::{set_word, STATE};
+use crate::state::{register_bytes, set_word, Kept, HELD_AT, REGISTER_AT, STATE};
 use crate::sum::{raised, Found, Sum};
 use crate::tally::{Deep, Tally};
 use crate::texts::values_before_end;
@@ -131,10 +131,10 @@ impl<'run> Session<'run> {
         match self.draw.below(6) {
             0 => self.draw.fill(&mut bytes),
             1 => {
-                set_word(&mut bytes, 60, 2 + self.draw.any_word() % 1_000_000);
+                set_word(&mut bytes, HELD_AT, 2 + self.draw.any_word() % 1_000_000);
                 met = Deep::HeldAboveOne;
             }
-            2 => self.draw.fill(&mut bytes[64..]),
+            2 => self.draw.fill(&mut bytes[REGISTER_AT..]),
             _ => {
                 let place = 4 * self.draw.size_below(20);
                 let word = if self.draw.one_in(2) { self.draw.any_word() } else { self.draw.word_below(9) };
@@ -193,21 +193,18 @@ impl<'run> Session<'run> {
 
     /// A state far along: rings anywhere, a register, a pending count near its limit, tables of good records.
     fn plant(&mut self) {
-        let device = self.device();
-        let mut bytes = self.sides.second.state.bytes();
-        for (at, ring) in [(32, device.receive.ring), (52, device.send.ring)] {
-            set_word(&mut bytes, at, self.draw.word_below(ring.capacity));
+        let mut kept = Kept::with_empty_register(self.device());
+        let device = &mut kept.device;
+        for ring in [&mut device.receive.ring, &mut device.send.ring] {
+            ring.first = self.draw.word_below(ring.capacity);
             let short = if self.draw.one_in(2) { 0 } else { self.draw.word_below(ring.capacity + 1) };
-            set_word(&mut bytes, at + 4, ring.capacity - short);
+            ring.count = ring.capacity - short;
         }
-        let pending = self.draw.pick(&[0, 1, u32::MAX - 2, u32::MAX - 1, u32::MAX]);
-        set_word(&mut bytes, 40, pending);
+        device.receive.pending = self.draw.pick(&[0, 1, u32::MAX - 2, u32::MAX - 1, u32::MAX]);
         let held = making::kept_frame(self.draw);
-        set_word(&mut bytes, 60, self.draw.word_below(2));
-        for (at, word) in [(64, held.id), (68, held.format), (72, held.rtr), (76, held.dlc)] {
-            set_word(&mut bytes, at, word);
-        }
-        bytes[80..].copy_from_slice(&held.data);
+        device.send.register = self.draw.one_in(2).then_some(held);
+        kept.leftover = register_bytes(&held);
+        let bytes = kept.bytes();
         self.sides.set_state(self.draw, &bytes);
         let seed = self.draw.next();
         self.sides.write_tables(|queue, send| {

@@ -7,7 +7,7 @@
 use crate::board;
 use crate::draw::Draw;
 use crate::making;
-use crate::state::{set_word, STATE};
+use crate::state::{set_rings, STATE};
 use independent::{Device, Message, Settings};
 use std::fs::{self, File};
 use std::hint::black_box;
@@ -35,21 +35,23 @@ struct Beds {
 }
 
 impl Beds {
-    /// Every frame and event passes; all slots hold good records; a transmitted event is raised at done.
-    fn new(slots: u32, places: u32) -> Beds {
+    /// The frame passes, with an open filter or one that compares every bit; so does every event; all slots hold
+    /// good records; a transmitted event is raised at done.
+    fn new(slots: u32, places: u32, strict: bool) -> Beds {
+        let frame = Message { id: 0x731, format: 1, rtr: 0, dlc: 8, data: [1, 2, 3, 4, 5, 6, 7, 8] };
+        let (code, mask) = if strict { (frame.id << 21 | 0x0102, 0) } else { (0, u32::MAX) };
         let given = Settings {
             mode: 0,
             format: 0,
             align: 0,
             mask_active: 0,
-            code: 0,
-            mask: u32::MAX,
+            code,
+            mask,
             event_mask: 0xFFF,
             queue_capacity: slots,
             tx_mode: 7,
             send_capacity: places,
         };
-        let frame = Message { id: 0x731, format: 1, rtr: 0, dlc: 8, data: [1, 2, 3, 4, 5, 6, 7, 8] };
         let mut queue = vec![0; 32 * slots as usize];
         let mut send = vec![0; 16 * places as usize];
         let mut state = vec![0; STATE];
@@ -64,13 +66,6 @@ impl Beds {
         let device = Box::new(device);
         Beds { state, device, queue: [queue.clone(), queue], send: [send.clone(), send], frame, slots, places }
     }
-}
-
-fn set_state_rings(state: &mut [u8], queue: (u32, u32), send: (u32, u32)) {
-    set_word(state, 32, queue.0);
-    set_word(state, 36, queue.1);
-    set_word(state, 52, send.0);
-    set_word(state, 56, send.1);
 }
 
 fn set_device_rings(device: &mut Device, queue: (u32, u32), send: (u32, u32)) {
@@ -128,8 +123,10 @@ mod plain {
     }
 }
 
-/// What is measured, by name.
-const ROWS: [&str; 6] = ["raise", "read_record", "read_text", "send_text", "take+done", "print_message_record"];
+/// What is measured, by name; the last is the first again with a filter that compares every bit.
+const ROWS: [&str; 7] =
+    ["raise", "read_record", "read_text", "send_text", "take+done", "print_message_record", "raise, strict filter"];
+const STRICT: usize = 6;
 
 fn answered(number: u32, expected: u32) {
     assert_eq!(black_box(number), expected, "the measured call's answer");
@@ -154,9 +151,9 @@ fn turns(row: usize, beds: &mut Beds) -> Vec<Turn<'_>> {
         let (mut out, mut record, mut line, mut size) = ([0; 32], [0; 16], [0; 80], 0);
         for _ in 0..CALLS {
             place = place.wrapping_add(1);
-            set_state_rings(state, (place % slots, queued), (place % places, buffered));
+            set_rings(state, (place % slots, queued), (place % places, buffered));
             match row {
-                0 => answered(board::raise(state, 1, place, &frame, &frame.data, queue), 100),
+                0 | STRICT => answered(board::raise(state, 1, place, &frame, &frame.data, queue), 100),
                 1 => answered(board::read_record(state, queue, &mut out), 0),
                 2 => answered(board::read_text(state, queue, &mut line, &mut size), 0),
                 3 => answered(board::send_text(state, TEXTS[place as usize % 4], send, &mut size), 0),
@@ -176,7 +173,7 @@ fn turns(row: usize, beds: &mut Beds) -> Vec<Turn<'_>> {
             at = at.wrapping_add(1);
             set_device_rings(device, (at % slots, queued), (at % places, buffered));
             match row {
-                0 => answered(plain::raise(device, 1, at, &frame, other_queue), 100),
+                0 | STRICT => answered(plain::raise(device, 1, at, &frame, other_queue), 100),
                 1 => answered(plain::read_record(device, other_queue, &mut out), 0),
                 2 => answered(plain::read_text(device, other_queue, &mut line, &mut size), 0),
                 3 => answered(plain::send_text(device, TEXTS[at as usize % 4], other_send, &mut size), 0),
@@ -215,7 +212,7 @@ pub fn table(rounds: usize, program: &str, second: &str) {
     println!("{:22}{:>9}{:>12}{:>17}{:>8}", "call", "capacity", "board", "plain Rust", "ratio");
     for (row, name) in ROWS.iter().enumerate() {
         for (slots, places) in CAPACITIES {
-            let mut beds = Beds::new(slots, places);
+            let mut beds = Beds::new(slots, places, row == STRICT);
             let taken = medians(turns(row, &mut beds), rounds);
             let [ours, theirs] = [0, 1].map(|side| taken[side] / f64::from(CALLS));
             let capacity = if matches!(row, 3 | 4) { places } else { slots };

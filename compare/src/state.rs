@@ -3,8 +3,12 @@
 use independent::{Device, Message, ReceiveSide, Ring, SendSide, Shared};
 
 pub const STATE: usize = 88;
-const HELD_AT: usize = 60;
-const REGISTER_AT: usize = 64;
+pub const HELD_AT: usize = 60;
+pub const REGISTER_AT: usize = 64;
+const DATA_AT: usize = 80;
+/// Where the queue's and the send buffer's `first` stand; `count` is behind it.
+const QUEUE_FIRST_AT: usize = 32;
+const BUFFER_FIRST_AT: usize = 52;
 
 /// A device, and what stands in the place of a register that holds nothing.
 #[derive(Clone, Debug)]
@@ -27,6 +31,14 @@ pub fn word_at(bytes: &[u8], at: usize) -> u32 {
 
 pub fn set_word(bytes: &mut [u8], at: usize, word: u32) {
     bytes[at..at + 4].copy_from_slice(&word.to_le_bytes());
+}
+
+/// First and count of both rings, stored over a state as they are between two measured calls.
+pub fn set_rings(bytes: &mut [u8], queue: (u32, u32), send: (u32, u32)) {
+    for (at, (first, count)) in [(QUEUE_FIRST_AT, queue), (BUFFER_FIRST_AT, send)] {
+        set_word(bytes, at, first);
+        set_word(bytes, at + 4, count);
+    }
 }
 
 impl State {
@@ -86,16 +98,20 @@ impl Kept {
         for (place, number) in numbers.iter().enumerate() {
             set_word(&mut bytes, 4 * place, *number);
         }
-        bytes[REGISTER_AT..].copy_from_slice(&self.leftover);
-        if let Some(held) = send.register {
-            let header = [held.id, held.format, held.rtr, held.dlc];
-            for (place, number) in header.iter().enumerate() {
-                set_word(&mut bytes, REGISTER_AT + 4 * place, *number);
-            }
-            bytes[80..].copy_from_slice(&held.data);
-        }
+        let register = send.register.map_or(self.leftover, |held| register_bytes(&held));
+        bytes[REGISTER_AT..].copy_from_slice(&register);
         bytes
     }
+}
+
+/// A message as the register keeps it.
+pub fn register_bytes(held: &Message) -> [u8; STATE - REGISTER_AT] {
+    let mut bytes = [0; STATE - REGISTER_AT];
+    for (place, number) in [held.id, held.format, held.rtr, held.dlc].iter().enumerate() {
+        set_word(&mut bytes, 4 * place, *number);
+    }
+    bytes[DATA_AT - REGISTER_AT..].copy_from_slice(&held.data);
+    bytes
 }
 
 fn device_in(bytes: &[u8]) -> Device {
@@ -117,12 +133,7 @@ fn device_in(bytes: &[u8]) -> Device {
 
 fn register_in(bytes: &[u8]) -> Message {
     let mut data = [0; 8];
-    data.copy_from_slice(&bytes[80..]);
-    Message {
-        id: word_at(bytes, 64),
-        format: word_at(bytes, 68),
-        rtr: word_at(bytes, 72),
-        dlc: word_at(bytes, 76),
-        data,
-    }
+    data.copy_from_slice(&bytes[DATA_AT..]);
+    let [id, format, rtr, dlc] = [0, 1, 2, 3].map(|place| word_at(bytes, REGISTER_AT + 4 * place));
+    Message { id, format, rtr, dlc, data }
 }
