@@ -46,7 +46,6 @@ pub extern "C" fn sv_open(state: &mut [u8], settings: &[u32], queue: &[u8], send
     if state.len() != kept::state::STATE {
         return 2;
     }
-    let d = r.device;
-    kept::state::write_state(state, d);
+    kept::state::write_state(state, r.device);
     0
 }

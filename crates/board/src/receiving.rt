@@ -36,8 +36,7 @@ pub extern "C" fn sv_raise(
     let receive = d.receive;
     let number = inbox::raising::raise_possible(d.shared, receive, code, tick, m, queue);
     let next = inbox::raising::after_raise(receive, number);
-    let ring = next.ring;
-    kept::handing::leave_counted(state, number, ring.count, next.pending)
+    kept::handing::leave_counted(state, number, next.ring.count, next.pending)
 }
 
 // Reads the oldest event as its 32 bytes.
@@ -55,10 +54,12 @@ pub extern "C" fn sv_read_record(state: &mut [u8], queue: &[u8], out: &mut [u8; 
     let r = recorder::receiving::read_record(d, queue);
     let b = r.bytes;
     kept::handing::hand_event(out, r.number, b);
-    let next = r.device;
-    let receive = next.receive;
-    let ring = receive.ring;
-    kept::handing::leave_advanced(state, r.number, ring.first, ring.count)
+    kept::handing::leave_advanced(
+        state,
+        r.number,
+        r.device.receive.ring.first,
+        r.device.receive.ring.count,
+    )
 }
 
 // Reads the oldest event as text.
@@ -81,10 +82,12 @@ pub extern "C" fn sv_read_text(
     let d = kept::state::device_in(state);
     let r = recorder::receiving::read_text(d, queue, out);
     kept::handing::hand(length, r.number, r.value);
-    let next = r.device;
-    let receive = next.receive;
-    let ring = receive.ring;
-    kept::handing::leave_advanced(state, r.number, ring.first, ring.count)
+    kept::handing::leave_advanced(
+        state,
+        r.number,
+        r.device.receive.ring.first,
+        r.device.receive.ring.count,
+    )
 }
 
 // The number of a look at position p.
@@ -118,8 +121,7 @@ pub extern "C" fn sv_look(state: &[u8], queue: &[u8], p: u32, offset: &mut usize
     if number != 0 {
         return number;
     }
-    let receive = d.receive;
-    let ring = receive.ring;
+    let ring = d.receive.ring;
     *offset = inbox::channel::SLOT * (rings::slot_of(ring, p) as usize);
     0
 }

@@ -27,10 +27,13 @@ pub extern "C" fn sv_take(
     let r = recorder::register::take(d, tick, send, queue);
     let b = r.bytes;
     kept::handing::hand_message(out, r.number, b);
-    let next = r.device;
-    let receive = next.receive;
-    let queued = receive.ring;
-    kept::handing::leave_transferred(state, r.number, queued.count, receive.pending, next.send)
+    kept::handing::leave_transferred(
+        state,
+        r.number,
+        r.device.receive.ring.count,
+        r.device.receive.pending,
+        r.device.send,
+    )
 }
 
 // Empties the register: its message was transmitted.
@@ -45,10 +48,13 @@ pub extern "C" fn sv_done(state: &mut [u8], tick: u32, queue: &mut [u8]) -> u32
     }
     let d = kept::state::device_in(state);
     let r = recorder::register::done(d, tick, queue);
-    let next = r.device;
-    let receive = next.receive;
-    let queued = receive.ring;
-    kept::handing::leave_transferred(state, r.number, queued.count, receive.pending, next.send)
+    kept::handing::leave_transferred(
+        state,
+        r.number,
+        r.device.receive.ring.count,
+        r.device.receive.pending,
+        r.device.send,
+    )
 }
 
 // Empties the register and purges the buffer; hands back how many were purged.
@@ -63,12 +69,14 @@ pub extern "C" fn sv_abort(state: &mut [u8], tick: u32, queue: &mut [u8], purged
         return 2;
     }
     let d = kept::state::device_in(state);
-    let channel = d.send;
-    let ring = channel.ring;
+    let count = d.send.ring.count;
     let r = recorder::register::abort(d, tick, queue);
-    kept::handing::hand_number(purged, r.number, ring.count);
-    let next = r.device;
-    let receive = next.receive;
-    let queued = receive.ring;
-    kept::handing::leave_transferred(state, r.number, queued.count, receive.pending, next.send)
+    kept::handing::hand_number(purged, r.number, count);
+    kept::handing::leave_transferred(
+        state,
+        r.number,
+        r.device.receive.ring.count,
+        r.device.receive.pending,
+        r.device.send,
+    )
 }

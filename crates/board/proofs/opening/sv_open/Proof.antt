@@ -22,7 +22,7 @@ returns-3 c =
 
 returns-4 : tie.Need-returns-4
 returns-4 c =
-    let tested = c .before .before .before .before .before in
+    let tested = c .before .before .before .before in
     let past = tested .before .before .before in
     let read = past .before .settings-in in
     open-kept _ _ _ (past .before .before .if1 .left) (read .ensures) (past .«open» .ensures)

@@ -26,10 +26,10 @@ returns-2 c =
 
 slot-of-requires : tie.Need-slot-of-requires
 slot-of-requires c κs =
-    let a = c .before .before .before .before .before .before .before .before .before .args in
-    let device-in = c .before .before .before .before .device-in in
-    let look-number = c .before .before .before .look-number in
-    let if2 = c .before .before .if2 in
+    let a = c .before .before .before .before .before .before .before .before .args in
+    let device-in = c .before .before .before .device-in in
+    let look-number = c .before .before .look-number in
+    let if2 = c .before .if2 in
     let d = device-in .result in
     let none = look-taken (a .p) d (now (a .queue)) (sym (look-number .ensures) ∙ if2 .left) in
     let g = look-good (d .shared) (d .receive) (length (now (a .queue))) (a .p) _ refl none in
@@ -38,11 +38,11 @@ slot-of-requires c κs =
 
 returns-3 : tie.Need-returns-3
 returns-3 c =
-    let past = c .before .before .before .before .before .before in
+    let past = c .before .before .before .before .before in
     let known = past .before .before .before .shared-slice-known in
-    let device-in = c .before .before .before .before .before .device-in in
-    let look-number = c .before .before .before .before .look-number in
-    let if2 = c .before .before .before .if2 in
+    let device-in = c .before .before .before .before .device-in in
+    let look-number = c .before .before .before .look-number in
+    let if2 = c .before .before .if2 in
     look-shown _ (λ i. known .given i .fits) (said (past .before .is-state .ensures) (past .if1 .left))
     (device-in .ensures) _ _ (look-number .ensures) (if2 .left) (c .slot-of .ensures)
 

@@ -32,16 +32,16 @@ after-raise-requires c κs =
 
 leave-counted-requires : tie.Need-leave-counted-requires
 leave-counted-requires c κs =
-    let test = c .before .before .before .before .before .before .before .before .before .before .before in
+    let test = c .before .before .before .before .before .before .before .before .before .before in
     possible-state _ (said (test .before .is-possible .ensures) (test .if1 .left))
 
 returns-2 : tie.Need-returns-2
 returns-2 c =
-    let made = c .before .before .before .before .before .before .before .before .before .before .before in
+    let made = c .before .before .before .before .before .before .before .before .before .before in
     let test = made .before .before .before in
-    let met = rw (made .message .ensures) at (c .before .before .before .before .before .before .before .before .raise-possible .ensures) in
+    let met = rw (made .message .ensures) at (c .before .before .before .before .before .before .before .raise-possible .ensures) in
     raise-called _ (said (test .before .is-possible .ensures) (test .if1 .left)) (made .before .device-in .ensures)
-    _ _ _ _ met (c .before .before .before .before .before .after-raise .ensures) (c .before .before .leave-counted .ensures)
+    _ _ _ _ met (c .before .before .before .before .after-raise .ensures) (c .before .before .leave-counted .ensures)
 
 pub sv-raise-spec : {M : Type 1} → statement M
 sv-raise-spec =

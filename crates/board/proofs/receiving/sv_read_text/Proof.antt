@@ -18,21 +18,21 @@ device-in-requires c κs = state-long _ (said (c .before .before .is-state .ensu
 
 leave-advanced-requires : tie.Need-leave-advanced-requires
 leave-advanced-requires c κs =
-    let test = c .before .before .before .before .before .before .before .before .before .before .before .before in
+    let test = c .before .before .before .before .before .before .before .before .before in
     said (test .before .is-state .ensures) (test .if1 .left)
 
 returns-2 : tie.Need-returns-2
 returns-2 c =
-    let past = c .before .before .before .before .before .before .before .before .before .before .before .before .before in
+    let past = c .before .before .before .before .before .before .before .before .before .before in
     let test = past .before .before in
     let a = test .before .before .before .before .before .before .args in
     let d = past .device-in .result in
     let l = lends (now (a .queue)) [] (now (a .out)) in
-    let read = c .before .before .before .before .before .before .before .before .before .before .before .read-text .ensures in
+    let read = c .before .before .before .before .before .before .before .before .read-text .ensures in
     let left = answer-advanced (now (a .state)) (past .device-in .ensures) (textRead d l) (text-moves d l) (read .answer)
     (c .before .before .leave-advanced .ensures) in
     text-called _ (said (test .before .is-state .ensures) (test .if1 .left)) (past .device-in .ensures)
-    _ left read (c .before .before .before .before .before .before .before .hand .ensures)
+    _ left read (c .before .before .before .before .hand .ensures)
 
 pub sv-read-text-spec : {M : Type 1} → statement M
 sv-read-text-spec =

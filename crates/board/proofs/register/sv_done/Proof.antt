@@ -20,18 +20,18 @@ device-in-requires c κs = state-long _ (said (c .before .before .is-state .ensu
 
 leave-transferred-requires : tie.Need-leave-transferred-requires
 leave-transferred-requires c κs =
-    let test = c .before .before .before .before .before .before .before .before .before .before in
+    let test = c .before .before .before .before .before .before .before in
     said (test .before .is-state .ensures) (test .if1 .left)
 
 returns-2 : tie.Need-returns-2
 unfolding outcome borrowed
 returns-2 c =
-    let past = c .before .before .before .before .before .before .before .before .before .before .before in
+    let past = c .before .before .before .before .before .before .before .before in
     let test = past .before .before in
     let a = test .before .before .before .before .before .args in
     let d = past .device-in .result in
     let l = lends (now (a .queue)) [] [] in
-    let done = c .before .before .before .before .before .before .before .before .before .done .ensures in
+    let done = c .before .before .before .before .before .before .done .ensures in
     let left = answer-transferred (now (a .state)) (past .device-in .ensures) (finished (a .tick) d l)
     (done-moves d l (a .tick)) (done .answer) (c .before .before .leave-transferred .ensures) in
     queue-called _ _ _ (said (test .before .is-state .ensures) (test .if1 .left)) (past .device-in .ensures) left done
