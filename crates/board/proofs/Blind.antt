@@ -8,10 +8,10 @@ use Rattle.common.specs.Choice.{pick}
 use Rattle.records.specs.declared.Message.{Message}
 use Rattle.settings.specs.Ranges.{goodShared}
 use Rattle.settings.specs.declared.Shared.{Shared}
-use Rattle.inbox.specs.Channel.{goodReceive, usable}
+use Rattle.channels.specs.Receiving.{goodReceive, usable}
 use Rattle.inbox.specs.Refusals.{recordRefusal, filterRefusal, maskRefusal, throughRefusal}
 use Rattle.inbox.specs.Calls as Inbox
-use Rattle.outbox.specs.Channel.{goodSend}
+use Rattle.channels.specs.Sending.{goodSend}
 use Rattle.outbox.specs.Refusals.{doneRefusal, abortRefusal}
 use Rattle.outbox.specs.Calls as Outbox
 use Rattle.recorder.specs.State.{good}

@@ -15,11 +15,11 @@ use Rattle.common.proofs.Choices.{by-test, pick-is, passed}
 use Rattle.records.specs.Events.{eventSize}
 use Rattle.settings.specs.Ranges.{goodShared}
 use Rattle.settings.specs.declared.Settings.{Settings}
-use Rattle.inbox.specs.Channel.{goodReceive, queueFits}
+use Rattle.channels.specs.Receiving.{goodReceive, queueFits}
 use Rattle.inbox.specs.Refusals.{possible, ready, lookRefusal}
 use Rattle.inbox.specs.Calls.{looked, lookedAt}
 use Rattle.inbox.proofs.Laws.{look-free, ready-fits}
-use Rattle.outbox.specs.Channel.{goodSend}
+use Rattle.channels.specs.Sending.{goodSend}
 use Rattle.recorder.specs.State.{good}
 use Rattle.recorder.specs.Outcomes.{Lent, lends, Outcome}
 use Rattle.recorder.specs.Receiving.{opened, lookSaid}

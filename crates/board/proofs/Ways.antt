@@ -15,13 +15,13 @@ use Rattle.records.specs.Events.{eventSize}
 use Rattle.records.specs.declared.Message.{Message}
 use Rattle.digits.specs.declared.Printed.{Printed}
 use Rattle.settings.specs.declared.Settings.{Settings}
-use Rattle.inbox.specs.Channel.{usable, queueFits}
+use Rattle.channels.specs.Receiving.{usable, queueFits}
 use Rattle.inbox.specs.Refusals.{ready, lookRefusal, throughRefusal}
 use Rattle.inbox.specs.Calls.{Raising, RaiseMet, afterRaise, lookedAt}
 use Rattle.inbox.specs.Calls as Inbox
-use Rattle.inbox.specs.declared.Receive.{Receive}
+use Rattle.channels.specs.declared.Receive.{Receive}
 use Rattle.inbox.proofs.Laws.{look-free, ready-fits, next-by, built}
-use Rattle.outbox.specs.Channel.{goodSend, sendFits}
+use Rattle.channels.specs.Sending.{goodSend, sendFits}
 use Rattle.outbox.specs.Refusals.{possible, takeRefusal, abortRefusal}
 use Rattle.outbox.specs.Calls as Outbox
 use Rattle.recorder.specs.State.{good, fresh, noDevice, withReceive}

@@ -122,7 +122,7 @@ pub extern "C" fn sv_look(state: &[u8], queue: &[u8], p: u32, offset: &mut usize
         return number;
     }
     let ring = d.receive.ring;
-    *offset = inbox::channel::SLOT * (rings::slot_of(ring, p) as usize);
+    *offset = channels::receiving::SLOT * (rings::slot_of(ring, p) as usize);
     0
 }
 

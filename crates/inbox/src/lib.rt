@@ -1,22 +1,11 @@
 // One receive channel: every call on it, over the shared settings, the channel and its table.
 // A call is a refusal and an effect.
 pub mod changing;
-pub mod channel;
 pub mod raising;
 pub mod reading;
 mod refusals;
 
-use common::Ring;
-use ids::Filter;
-
-// A receive channel: its filter, its event mask, its ring of events, and the lost count that the next recorded
-// event takes.
-pub struct Receive {
-    pub filter: Filter,
-    pub events: u32,
-    pub ring: Ring,
-    pub pending: u32,
-}
+use channels::Receive;
 
 // The answer of read_record: the paper's number, the event's 32 bytes, and the channel after the call.
 pub struct ReadOut {

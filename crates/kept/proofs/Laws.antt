@@ -16,7 +16,7 @@ use Rattle.common.proofs.Bools.{and-left}
 use Rattle.common.proofs.Lists.{reads-slice, copy-fills}
 use Rattle.digits.proofs.Written.{sets-append}
 use Rattle.records.specs.declared.Message.{Message}
-use Rattle.outbox.specs.declared.Send.{Send}
+use Rattle.channels.specs.declared.Send.{Send}
 use Rattle.recorder.specs.declared.Device.{Device}
 use Rattle.kept.specs.State.{sharedNumbers, receiveNumbers, sendNumbers, registerNumbers, registerBytes, numbers}
 use Rattle.kept.specs.State.{stateSize, receiveAt, sendAt, words, stateBytes, word, deviceIn, isState}

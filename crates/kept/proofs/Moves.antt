@@ -11,16 +11,16 @@ use Rattle.records.specs.declared.Event.{Event}
 use Rattle.records.specs.declared.Message.{Message}
 use Rattle.records.specs.Raised.{filtered, eventOf}
 use Rattle.settings.specs.declared.Shared.{Shared}
-use Rattle.inbox.specs.Channel.{usable, moved}
+use Rattle.channels.specs.Receiving.{usable, moved}
 use Rattle.inbox.specs.Refusals.{raiseRefusal, recordRefusal, textRefusal}
 use Rattle.inbox.specs.Calls.{Raising, meets, queued, unfiltered}
 use Rattle.inbox.specs.Calls as Inbox
-use Rattle.inbox.specs.declared.Receive.{Receive}
-use Rattle.outbox.specs.Channel.{goodSend}
+use Rattle.channels.specs.declared.Receive.{Receive}
+use Rattle.channels.specs.Sending.{goodSend}
 use Rattle.outbox.specs.Refusals.{takeRefusal, doneRefusal, abortRefusal}
 use Rattle.outbox.specs.Calls as Outbox
 use Rattle.outbox.specs.declared.Raised.{Raised}
-use Rattle.outbox.specs.declared.Send.{Send}
+use Rattle.channels.specs.declared.Send.{Send}
 use Rattle.recorder.specs.Outcomes.{Lent, Outcome, answerOf, recordOf, takenOf}
 use Rattle.recorder.specs.Receiving.{raised, recordRead, textRead}
 use Rattle.recorder.specs.Sending.{carried, carrying, taken, finished, aborted}

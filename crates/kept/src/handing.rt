@@ -2,8 +2,8 @@
 use crate::parts;
 use crate::state;
 use crate::words;
+use channels::Send;
 use ids::Header;
-use outbox::Send;
 use recorder::Device;
 use records::Message;
 ghost use mathlib.Core.Path.{_≡_};

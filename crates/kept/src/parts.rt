@@ -1,10 +1,10 @@
 // The parts of a state, each read and written from `at` on.
 use crate::words;
+use channels::Receive;
+use channels::Send;
 use common::Ring;
 use ids::Filter;
 use ids::Header;
-use inbox::Receive;
-use outbox::Send;
 use records::Message;
 use settings::Shared;
 ghost use mathlib.Core.Path.{_≡_};

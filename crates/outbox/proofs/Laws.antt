@@ -22,37 +22,23 @@ use Rattle.settings.specs.Binary.{binaryRefusal, brought}
 use Rattle.settings.specs.declared.Shared.{Shared}
 use Rattle.settings.specs.declared.Brought.{Brought}
 use Rattle.settings.proofs.Laws.{brought-number, brought-message}
-use Rattle.outbox.specs.Channel.{sendLimit, goodSend, sendFits, oldest}
+use Rattle.channels.specs.Sending.{sendLimit, goodSend, sendFits, oldest}
 use Rattle.outbox.specs.Refusals.{possible, usable, putRefusal, waitRefusal, takeRefusal}
 use Rattle.outbox.specs.Refusals.{notFound, found, doneRefusal, abortRefusal}
 use Rattle.outbox.specs.Calls.{Outcome, raisedIf, refused, settled, sentOf, WriteMet}
 use Rattle.outbox.specs.Calls.{puts, sent, reads, usedBeside, readSent, textSent}
 use Rattle.outbox.specs.Calls.{takes, taken, finishes, finished, aborts, aborted}
 use Rattle.outbox.specs.declared.Raised.{Raised}
-use Rattle.outbox.specs.declared.Send.{Send}
+use Rattle.channels.specs.declared.Send.{Send}
 use Rattle.outbox.specs.declared.Sent.{Sent}
 use Rattle.outbox.specs.declared.Found.{Found}
 use Rattle.outbox.specs.declared.Read.{Read}
 
 -- ---- what the tests for refusal 2 give
 
--- a good channel has a good ring
-pub ring-of : (s : Send) → goodSend s ≡ true → RingFacts sendLimit (s .ring)
-unfolding goodSend
-ring-of s h =
-    good-ring sendLimit (s .ring)
-    (and-right (goodTx (s .tx)) (goodRing sendLimit (s .ring))
-    (and-left (goodTx (s .tx) && goodRing sendLimit (s .ring)) (not (s .held) || goodMessage (s .message)) h))
-
 -- a table that passed the test is as long as the capacity needs
 pub fits-table : (s : Send) (n : ℕ) → sendFits s n ≡ true → messageSize * s .ring .capacity ≤ n
 fits-table s n h = leb-true (messageSize * s .ring .capacity) n h
-
--- a held register decides where the rest is good
-pub held-good : (s : Send) (g : Bool) → goodTx (s .tx) ≡ true → goodRing sendLimit (s .ring) ≡ true
-    → not (s .held) ≡ false → g ≡ goodMessage (s .message) → g ≡ goodSend s
-unfolding goodSend
-held-good s g x y h e = rw (x, y, h) e
 
 -- a usable channel is good, and its table long enough
 pub judged : (h : Shared) (s : Send) (n : ℕ) → usable h s n ≡ true → (goodSend s ≡ true) × (sendFits s n ≡ true)

@@ -8,8 +8,8 @@ use Rattle.common.specs.Choice.{pick}
 use Rattle.records.specs.Messages.{messageIn, isMessage, noMessage}
 use Rattle.settings.specs.Ranges.{goodShared}
 use Rattle.settings.specs.declared.Shared.{Shared}
-use Rattle.outbox.specs.Channel.{goodSend, sendFits, oldest}
-use Rattle.outbox.specs.declared.Send.{Send}
+use Rattle.channels.specs.Sending.{goodSend, sendFits, oldest}
+use Rattle.channels.specs.declared.Send.{Send}
 use Rattle.outbox.specs.declared.Found.{Found}
 
 -- settings and channel are possible: else 2

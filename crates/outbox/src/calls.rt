@@ -1,11 +1,12 @@
 // Every call on a send channel: its refusal, or its effect.
 use crate::Emptied;
 use crate::Read;
-use crate::Send;
 use crate::Sent;
 use crate::Taken;
 use crate::moves;
 use crate::refusals;
+use channels::Send;
+use channels::sending;
 use records::Message;
 use settings::Shared;
 ghost use mathlib.Core.Path.{_≡_};
@@ -124,7 +125,7 @@ pub fn take(h: Shared, s: Send, tick: u32, table: &[u8]) -> Taken
     }
     let m = f.message;
     let b = moves::bytes_of(m);
-    let next = moves::after_take(s, m);
+    let next = sending::after_take(s, m);
     let raised = moves::raised_if(settings::txmode::raises_at_take(s.tx), 2, tick, m);
     Taken {
         number: 0,
@@ -143,7 +144,7 @@ pub fn done(h: Shared, s: Send, tick: u32) -> Emptied
         return not_emptied(n, s);
     }
     let m = s.message;
-    let next = moves::after_done(s);
+    let next = sending::after_done(s);
     let raised = moves::raised_if(settings::txmode::raises_at_done(s.tx), 2, tick, m);
     Emptied {
         number: 0,
@@ -163,7 +164,7 @@ pub fn abort(h: Shared, s: Send, tick: u32) -> Emptied
     }
     let ring = s.ring;
     let m = s.message;
-    let next = moves::after_abort(s);
+    let next = sending::after_abort(s);
     let raised = moves::raised_if(s.held, 3, tick, m);
     Emptied {
         number: 0,

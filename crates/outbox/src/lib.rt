@@ -1,20 +1,11 @@
 // One send channel: every call on it, over the shared settings, the channel and its table.
 // A call is a refusal and an effect.
 pub mod calls;
-pub mod channel;
 mod moves;
 mod refusals;
 
-use common::Ring;
+use channels::Send;
 use records::Message;
-
-// A send channel: TxMode, its ring of messages, and the register, which holds a message or none.
-pub struct Send {
-    pub tx: u32,
-    pub ring: Ring,
-    pub held: bool,
-    pub message: Message,
-}
 
 // The event that a call raises, to be carried to a receive channel: its code, or 0 for none, tick and message.
 pub struct Raised {

@@ -1,18 +1,17 @@
 // What a call that is not refused does to a channel that was judged, and the event that it raises.
 use crate::Raised;
-use crate::Send;
 use crate::Sent;
-use crate::channel;
-use common::Ring;
+use channels::Send;
+use channels::sending;
 use common::rings;
 use records::JudgedMessage;
 use records::Message;
 ghost use mathlib.Core.Path.{_≡_};
 ghost use mathlib.Core.Bool.{true};
-ghost use Prim.Native.Nat.{_≤_, _<_};
+ghost use Prim.Native.Nat.{_<_};
 ghost use lib.ListN.{length};
 ghost use Rattle.records.specs.Messages.{messageBytes, judgeMessage};
-ghost use Rattle.outbox.specs.Channel.{goodSend, sendFits, oldest, withRing, afterTake, afterDone, afterAbort};
+ghost use Rattle.channels.specs.Sending.{goodSend, sendFits, oldest};
 ghost use Rattle.outbox.specs.Calls.{raisedIf, puts, WriteMet};
 
 // The oldest slot, judged.
@@ -21,63 +20,8 @@ pub fn oldest(s: Send, table: &[u8]) -> JudgedMessage
     ensures { λ j. ⌜ j ≡ judgeMessage (oldest s (now (table .entry))) ⌝ }
 {
     let ring = s.ring;
-    let at = channel::SLOT * (rings::slot_of(ring, 0) as usize);
-    records::messages::judge_message(&table[at..at + channel::SLOT])
-}
-
-// The channel with another ring.
-fn with_ring(s: Send, ring: Ring) -> Send
-    ensures { λ n. ⌜ n ≡ withRing s ring ⌝ }
-{
-    let m = s.message;
-    Send {
-        tx: s.tx,
-        ring: ring,
-        held: s.held,
-        message: m,
-    }
-}
-
-// The oldest message moved to the register.
-pub fn after_take(s: Send, m: Message) -> Send
-    requires { ⌜ (s .ring .capacity ≤ 2048) × (s .ring .first < s .ring .capacity) × (0 < s .ring .count) ⌝ }
-    ensures { λ n. ⌜ n ≡ afterTake s m ⌝ }
-{
-    let ring = s.ring;
-    let next = rings::without_oldest(ring);
-    Send {
-        tx: s.tx,
-        ring: next,
-        held: true,
-        message: m,
-    }
-}
-
-// The register emptied.
-pub fn after_done(s: Send) -> Send
-    ensures { λ n. ⌜ n ≡ afterDone s ⌝ }
-{
-    let ring = s.ring;
-    let none = records::messages::no_message();
-    Send {
-        tx: s.tx,
-        ring: ring,
-        held: false,
-        message: none,
-    }
-}
-
-// The register emptied and the buffer purged: the count becomes 0.
-pub fn after_abort(s: Send) -> Send
-    ensures { λ n. ⌜ n ≡ afterAbort s ⌝ }
-{
-    let ring = s.ring;
-    let none = Ring {
-        capacity: ring.capacity,
-        first: ring.first,
-        count: 0,
-    };
-    after_done(with_ring(s, none))
+    let at = sending::SLOT * (rings::slot_of(ring, 0) as usize);
+    records::messages::judge_message(&table[at..at + sending::SLOT])
 }
 
 // A message's 16 bytes, by value.
@@ -114,9 +58,9 @@ pub fn put(s: Send, m: Message, value: usize, table: &mut [u8]) -> Sent
     ensures { λ r. ⌜ WriteMet (puts s m value (now (table .entry))) r (now (table .exit)) ⌝ }
 {
     let ring = s.ring;
-    let at = channel::SLOT * (rings::slot_of(ring, ring.count) as usize);
-    records::messages::write_message(&mut table[at..at + channel::SLOT], m);
-    let next = with_ring(s, rings::with_one_more(ring));
+    let at = sending::SLOT * (rings::slot_of(ring, ring.count) as usize);
+    records::messages::write_message(&mut table[at..at + sending::SLOT], m);
+    let next = sending::with_ring(s, rings::with_one_more(ring));
     Sent {
         number: 0,
         value: value,

@@ -1,8 +1,8 @@
 // The refusal of each call: 0, or the first that applies in the paper's order.
 use crate::Found;
-use crate::Send;
-use crate::channel;
 use crate::moves;
+use channels::Send;
+use channels::sending;
 use settings::Shared;
 ghost use mathlib.Core.Path.{_≡_};
 ghost use Rattle.outbox.specs.Refusals.{possible, usable, putRefusal, waitRefusal};
@@ -15,7 +15,7 @@ fn is_possible(h: Shared, s: Send) -> bool
     if !settings::ranges::is_shared(h) {
         return false;
     }
-    channel::is_send(s)
+    sending::is_send(s)
 }
 
 // They are, and the table, of n bytes, is long enough.
@@ -25,7 +25,7 @@ fn is_usable(h: Shared, s: Send, n: usize) -> bool
     if !is_possible(h, s) {
         return false;
     }
-    channel::fits(s, n)
+    sending::fits(s, n)
 }
 
 // send and send_text, whose message has its own refusal or 0: 2, its own, 5.

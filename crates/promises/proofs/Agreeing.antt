@@ -17,13 +17,13 @@ use Rattle.records.specs.declared.Message.{Message}
 use Rattle.records.specs.declared.Event.{Event}
 use Rattle.records.proofs.EventRoundTrip.{event-bytes-length}
 use Rattle.settings.specs.declared.Shared.{Shared}
-use Rattle.inbox.specs.Channel.{queueLimit, goodReceive, usable}
+use Rattle.channels.specs.Receiving.{queueLimit, goodReceive, usable}
 use Rattle.inbox.specs.Refusals.{possible, ready}
 use Rattle.inbox.specs.Calls.{Raising, queued, unfiltered}
 use Rattle.inbox.specs.Calls as Queue
-use Rattle.inbox.specs.declared.Receive.{Receive}
-use Rattle.outbox.specs.Channel.{goodSend}
-use Rattle.outbox.specs.declared.Send.{Send}
+use Rattle.channels.specs.declared.Receive.{Receive}
+use Rattle.channels.specs.Sending.{goodSend}
+use Rattle.channels.specs.declared.Send.{Send}
 use Rattle.recorder.specs.State.{good}
 use Rattle.recorder.specs.Outcomes.{lends, Outcome, ends, met, noted}
 use Rattle.recorder.specs.declared.Device.{Device}

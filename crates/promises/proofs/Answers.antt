@@ -17,7 +17,7 @@ use Rattle.event_text.specs.Lines.{eventRoom, eventLine}
 use Rattle.settings.specs.Ranges.{goodShared}
 use Rattle.settings.specs.declared.Settings.{Settings}
 use Rattle.settings.specs.declared.Shared.{Shared}
-use Rattle.inbox.specs.Channel.{queueLimit}
+use Rattle.channels.specs.Receiving.{queueLimit}
 use Rattle.recorder.specs.Outcomes.{Lent, lends, Outcome}
 use Rattle.recorder.specs.Receiving.{opened}
 use Rattle.recorder.specs.declared.Device.{Device}

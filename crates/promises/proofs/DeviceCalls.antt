@@ -14,10 +14,10 @@ use Rattle.records.specs.Raised.{eventOf, frameRefusal}
 use Rattle.records.specs.declared.Message.{Message}
 use Rattle.settings.specs.Ranges.{goodShared}
 use Rattle.settings.specs.declared.Shared.{Shared}
-use Rattle.inbox.specs.Channel.{queueFits}
+use Rattle.channels.specs.Receiving.{queueFits}
 use Rattle.inbox.specs.Refusals.{ready, raiseRefusal}
 use Rattle.inbox.specs.Calls as Queue
-use Rattle.outbox.specs.Channel.{goodSend}
+use Rattle.channels.specs.Sending.{goodSend}
 use Rattle.recorder.specs.State.{good, withShared}
 use Rattle.recorder.specs.Outcomes.{Lent, lends, ends}
 use Rattle.recorder.specs.Receiving.{raised, changed}

@@ -18,7 +18,7 @@ use Rattle.records.specs.declared.Message.{Message}
 use Rattle.records.specs.Events.{eventSize, codeOf, eventIn, isEvent}
 use Rattle.records.specs.Messages.{messageSize, isMessage, noMessage}
 use Rattle.records.specs.declared.Event.{Event}
-use Rattle.inbox.specs.Channel.{goodReceive, queueFits, slotAt, usable, afterRead, withFilter, withEvents}
+use Rattle.channels.specs.Receiving.{goodReceive, queueFits, slotAt, usable, afterRead, withFilter, withEvents}
 use Rattle.inbox.specs.Refusals.{ready, raiseRefusal, oldestRefusal, recordRefusal, textRefusal}
 use Rattle.inbox.specs.Refusals.{lookRefusal, filterRefusal, maskRefusal, throughRefusal}
 use Rattle.inbox.specs.Refusals as Judged
@@ -26,8 +26,8 @@ use Rattle.inbox.specs.Calls.{Raising, raises, queued, unfiltered, meets, looke
 use Rattle.inbox.specs.Calls as Queue
 use Rattle.inbox.proofs.Laws.{raise-number}
 use Rattle.records.specs.Raised.{filtered, eventOf}
-use Rattle.inbox.specs.declared.Receive.{Receive}
-use Rattle.outbox.specs.Channel.{goodSend, sendFits, oldest}
+use Rattle.channels.specs.declared.Receive.{Receive}
+use Rattle.channels.specs.Sending.{goodSend, sendFits, oldest}
 use Rattle.outbox.specs.Refusals.{possible, putRefusal, waitRefusal, takeRefusal, doneRefusal, abortRefusal}
 use Rattle.outbox.specs.Refusals as Refusals
 use Rattle.outbox.specs.Calls as Wire

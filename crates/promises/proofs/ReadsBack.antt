@@ -22,8 +22,8 @@ use Rattle.message_text.proofs.RoundTrip.{round-trip}
 use Rattle.settings.specs.Ranges.{formatOf}
 use Rattle.settings.specs.TxMode.{goodTx}
 use Rattle.settings.specs.declared.Settings.{Settings}
-use Rattle.inbox.specs.Channel.{goodReceive}
-use Rattle.outbox.specs.Channel.{sendLimit, goodSend, sendFits, withRing}
+use Rattle.channels.specs.Receiving.{goodReceive}
+use Rattle.channels.specs.Sending.{sendLimit, goodSend, sendFits, withRing}
 use Rattle.outbox.specs.Refusals.{possible, usable, putRefusal}
 use Rattle.outbox.specs.Calls as Outbox
 use Rattle.recorder.specs.State.{good, withSend}

@@ -17,16 +17,16 @@ use Rattle.ids.specs.EventMask.{isMask}
 use Rattle.records.specs.Events.{eventSize, eventBytes, isEvent, eventIn}
 use Rattle.records.specs.declared.Event.{Event}
 use Rattle.event_text.specs.Lines.{eventRoom, eventLine}
-use Rattle.inbox.specs.Channel.{queueLimit, queueFits, slotAt, afterRead}
+use Rattle.channels.specs.Receiving.{queueLimit, queueFits, slotAt, afterRead}
 use Rattle.inbox.specs.Refusals.{ready, oldestRefusal, recordRefusal, textRefusal}
 use Rattle.inbox.specs.Refusals.{lookRefusal, filterRefusal, maskRefusal, throughRefusal}
 use Rattle.inbox.specs.Refusals as Judged
 use Rattle.inbox.specs.Calls.{looked}
 use Rattle.inbox.specs.Calls as Queue
-use Rattle.inbox.specs.declared.Receive.{Receive}
+use Rattle.channels.specs.declared.Receive.{Receive}
 use Rattle.recorder.specs.State.{good, withReceive}
 use Rattle.recorder.specs.Outcomes.{Lent, lends, ends}
-use Rattle.outbox.specs.Channel.{goodSend}
+use Rattle.channels.specs.Sending.{goodSend}
 use Rattle.recorder.specs.Receiving.{lifted, filterSet, eventMaskSet, recordRead, textRead, lookSaid, through}
 use Rattle.recorder.specs.declared.Device.{Device}
 use Rattle.model.specs.Said.{says, saysZeros, hands, prints}

@@ -22,12 +22,12 @@ use Rattle.message_text.proofs.Taken.{taken-good}
 use Rattle.settings.specs.Ranges.{formatOf}
 use Rattle.settings.specs.TxMode.{raisesAtTake, raisesAtDone}
 use Rattle.settings.specs.Binary.{binaryRefusal, sentMessage}
-use Rattle.inbox.specs.Channel.{goodReceive}
-use Rattle.inbox.specs.Channel as Queue
-use Rattle.outbox.specs.Channel.{sendLimit, oldest, afterTake, afterDone, afterAbort}
+use Rattle.channels.specs.Receiving.{goodReceive}
+use Rattle.channels.specs.Receiving as Queue
+use Rattle.channels.specs.Sending.{sendLimit, oldest, afterTake, afterDone, afterAbort}
 use Rattle.outbox.specs.Refusals.{possible, usable, putRefusal, waitRefusal, takeRefusal, doneRefusal, abortRefusal}
 use Rattle.outbox.specs.Calls as Wire
-use Rattle.outbox.specs.declared.Send.{Send}
+use Rattle.channels.specs.declared.Send.{Send}
 use Rattle.recorder.specs.State.{withSend}
 use Rattle.recorder.specs.Outcomes.{Lent, lends, ends}
 use Rattle.recorder.specs.Outcomes as Ended

@@ -21,13 +21,13 @@ use Rattle.ids.specs.EventMask.{maskBit, maskLets}
 use Rattle.records.specs.Messages.{messageSize, stored, goodMessage, messageBytes, messageIn, isMessage, noMessage, judgeMessage}
 use Rattle.records.specs.Events.{eventSize, holdsFrame, kindOf, eventBytes, eventIn, isEvent}
 use Rattle.records.specs.declared.Message.{Message}
-use Rattle.inbox.specs.Channel.{goodReceive}
+use Rattle.channels.specs.Receiving.{goodReceive}
 use Rattle.inbox.specs.Refusals.{ready, raiseRefusal, oldestRefusal, recordRefusal, textRefusal, throughRefusal}
 use Rattle.inbox.specs.Refusals as Judged
 use Rattle.inbox.specs.Calls.{queued, unfiltered, meets}
 use Rattle.inbox.specs.Calls as Queue
 use Rattle.records.specs.Raised.{filtered, eventOf}
-use Rattle.outbox.specs.Channel.{goodSend}
+use Rattle.channels.specs.Sending.{goodSend}
 use Rattle.outbox.specs.Refusals.{possible, usable, putRefusal}
 use Rattle.outbox.specs.Calls as Outbox
 use Rattle.settings.specs.TxMode.{goodTx}

@@ -7,7 +7,7 @@ use Rattle.common.specs.Slots.{ring}
 use Rattle.common.specs.declared.Ring.{Ring}
 use Rattle.records.specs.Messages.{messageSize}
 use Rattle.records.specs.Events.{eventSize}
-use Rattle.inbox.specs.Channel.{slotAt}
+use Rattle.channels.specs.Receiving.{slotAt}
 use Rattle.settings.specs.declared.Settings.{Settings}
 use Rattle.recorder.specs.Outcomes.{Lent, lends, Outcome}
 use Rattle.recorder.specs.Receiving.{opened}

@@ -7,10 +7,10 @@ use Prim.Native.Nat.{ℕ}
 use lib.ListN.{length}
 use Rattle.common.proofs.Bools.{and-left}
 use Rattle.records.specs.declared.Message.{Message}
-use Rattle.inbox.specs.Channel.{goodReceive, usable}
-use Rattle.inbox.specs.declared.Receive.{Receive}
-use Rattle.outbox.specs.Channel.{sendFits}
-use Rattle.outbox.specs.declared.Send.{Send}
+use Rattle.channels.specs.Receiving.{goodReceive, usable}
+use Rattle.channels.specs.declared.Receive.{Receive}
+use Rattle.channels.specs.Sending.{sendFits}
+use Rattle.channels.specs.declared.Send.{Send}
 use Rattle.recorder.specs.State.{good, withReceive}
 use Rattle.recorder.specs.Outcomes.{Lent, Outcome, queueReady, sendReady, bothReady, withQueue}
 use Rattle.recorder.specs.Sending.{sent, textSent, taken, finished, aborted}

@@ -9,7 +9,7 @@ use Rattle.records.specs.Raised.{eventOf}
 use Rattle.settings.specs.Ranges.{goodShared}
 use Rattle.settings.specs.declared.Shared.{Shared}
 use Rattle.inbox.specs.Calls.{RaiseMet, unfiltered}
-use Rattle.inbox.specs.declared.Receive.{Receive}
+use Rattle.channels.specs.declared.Receive.{Receive}
 use Rattle.inbox.proofs.Laws.{no-filter}
 use Rattle.recorder.specs.State.{withShared, withReceive}
 use Rattle.recorder.specs.Outcomes.{Lent, ends, refuses, queueReady, withQueue, met, answers, QueueMet}

@@ -12,8 +12,8 @@ use Rattle.records.specs.declared.Message.{Message}
 use Rattle.records.specs.Raised.{eventOf}
 use Rattle.records.proofs.OfCode.{event-code}
 use Rattle.settings.specs.Ranges.{goodShared}
-use Rattle.inbox.specs.Channel.{goodReceive, queueFits, usable}
-use Rattle.outbox.specs.Channel.{goodSend}
+use Rattle.channels.specs.Receiving.{goodReceive, queueFits, usable}
+use Rattle.channels.specs.Sending.{goodSend}
 use Rattle.recorder.specs.State.{good}
 use Rattle.recorder.specs.Outcomes.{Lent, queueReady}
 use Rattle.recorder.specs.declared.Device.{Device}

@@ -11,11 +11,11 @@ use Rattle.records.specs.Raised.{eventOf}
 use Rattle.records.specs.declared.Message.{Message}
 use Rattle.settings.specs.declared.Shared.{Shared}
 use Rattle.inbox.specs.Calls.{raises}
-use Rattle.inbox.specs.declared.Receive.{Receive}
+use Rattle.channels.specs.declared.Receive.{Receive}
 use Rattle.inbox.proofs.Laws.{no-filter, NextBy, stays, next-past}
 use Rattle.outbox.specs.Calls as Outbox
 use Rattle.outbox.specs.declared.Raised.{Raised}
-use Rattle.outbox.specs.declared.Send.{Send}
+use Rattle.channels.specs.declared.Send.{Send}
 use Rattle.outbox.specs.declared.Sent.{Sent}
 use Rattle.outbox.specs.declared.Taken.{Taken as TakenOut}
 use Rattle.outbox.specs.declared.Emptied.{Emptied}

@@ -6,9 +6,9 @@ use mathlib.Core.List.{List, []}
 use lib.ListN.{length}
 use Rattle.records.specs.declared.Event.{Event}
 use Rattle.digits.specs.declared.Printed.{Printed}
-use Rattle.inbox.specs.Channel.{queueFits}
+use Rattle.channels.specs.Receiving.{queueFits}
 use Rattle.inbox.specs.Calls.{Raising, meets}
-use Rattle.outbox.specs.Channel.{sendFits}
+use Rattle.channels.specs.Sending.{sendFits}
 use Rattle.recorder.specs.State.{good, withReceive}
 use Rattle.recorder.specs.declared.Device.{Device}
 use Rattle.recorder.specs.declared.Answer.{Answer}

@@ -9,9 +9,9 @@ use Rattle.records.specs.Messages.{messageSize}
 use Rattle.records.specs.Raised.{eventOf}
 use Rattle.records.specs.declared.Message.{Message}
 use Rattle.settings.specs.declared.Shared.{Shared}
-use Rattle.inbox.specs.Channel.{goodReceive, usable}
+use Rattle.channels.specs.Receiving.{goodReceive, usable}
 use Rattle.inbox.specs.Calls.{Raising, raises, unfiltered, meets}
-use Rattle.inbox.specs.declared.Receive.{Receive}
+use Rattle.channels.specs.declared.Receive.{Receive}
 use Rattle.outbox.specs.Calls as Outbox
 use Rattle.outbox.specs.declared.Raised.{Raised}
 use Rattle.outbox.specs.declared.Emptied.{Emptied}

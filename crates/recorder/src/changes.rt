@@ -57,7 +57,7 @@ pub fn set_format(d: Device, format: u32, tick: u32, queue: &mut [u8]) -> Answer
 pub fn set_filter(d: Device, code: u32, mask: u32) -> Answer
     ensures { λ r. ⌜ r ≡ answerOf (filterSet code mask d (lends [] [] [])) ⌝ }
 {
-    if !outbox::channel::is_send(d.send) {
+    if !channels::sending::is_send(d.send) {
         return state::answer(2, 0, d);
     }
     let o = inbox::changing::set_filter(d.shared, d.receive, code, mask);
@@ -69,7 +69,7 @@ pub fn set_filter(d: Device, code: u32, mask: u32) -> Answer
 pub fn set_event_mask(d: Device, events: u32) -> Answer
     ensures { λ r. ⌜ r ≡ answerOf (eventMaskSet events d (lends [] [] [])) ⌝ }
 {
-    if !outbox::channel::is_send(d.send) {
+    if !channels::sending::is_send(d.send) {
         return state::answer(2, 0, d);
     }
     let o = inbox::changing::set_event_mask(d.shared, d.receive, events);

@@ -7,8 +7,8 @@ pub mod register;
 pub mod sending;
 mod state;
 
-use inbox::Receive;
-use outbox::Send;
+use channels::Receive;
+use channels::Send;
 use settings::Shared;
 
 // The whole state of a device, by value.

@@ -1,12 +1,12 @@
 // A device's state: is it possible, and with which part exchanged.
 use crate::Answer;
 use crate::Device;
-use inbox::Receive;
-use outbox::Send;
+use channels::Receive;
+use channels::Send;
 use settings::Shared;
 ghost use mathlib.Core.Path.{_≡_};
 ghost use mathlib.Core.Bool.{_&&_};
-ghost use Rattle.inbox.specs.Channel.{goodReceive, queueFits};
+ghost use Rattle.channels.specs.Receiving.{goodReceive, queueFits};
 ghost use Rattle.recorder.specs.State.{good, withShared, withReceive, withSend};
 ghost use Rattle.recorder.specs.Outcomes.{answers};
 
@@ -19,11 +19,11 @@ pub fn is_good(d: Device) -> bool
         return false;
     }
     let receive = d.receive;
-    if !inbox::channel::is_receive(receive) {
+    if !channels::receiving::is_receive(receive) {
         return false;
     }
     let send = d.send;
-    outbox::channel::is_send(send)
+    channels::sending::is_send(send)
 }
 
 // The state is possible and the event table, of n bytes, long enough.
@@ -34,7 +34,7 @@ pub fn queue_ready(d: Device, n: usize) -> bool
         return false;
     }
     let receive = d.receive;
-    inbox::channel::fits(receive, n)
+    channels::receiving::fits(receive, n)
 }
 
 // The receive channel is possible and the event table, of n bytes, long enough.
@@ -42,10 +42,10 @@ pub fn receive_ready(d: Device, n: usize) -> bool
     ensures { λ ok. ⌜ ok ≡ (goodReceive (d .receive) && queueFits (d .receive) n) ⌝ }
 {
     let receive = d.receive;
-    if !inbox::channel::is_receive(receive) {
+    if !channels::receiving::is_receive(receive) {
         return false;
     }
-    inbox::channel::fits(receive, n)
+    channels::receiving::fits(receive, n)
 }
 
 pub fn with_shared(d: Device, s: Shared) -> Device

@@ -1,5 +1,6 @@
 use Rattle.board.proofs.Ways.{not-with, look-taken, look-refused, look-shown}
-use Rattle.inbox.proofs.Laws.{ring-of, look-good}
+use Rattle.channels.proofs.Laws.{receive-ring}
+use Rattle.inbox.proofs.Laws.{look-good}
 use native.Mathlib.Omega.{arith}
 use Rattle.kept.proofs.Laws.{state-long}
 use Rattle.common.proofs.Bools.{said, denied}
@@ -33,7 +34,7 @@ slot-of-requires c κs =
     let d = device-in .result in
     let none = look-taken (a .p) d (now (a .queue)) (sym (look-number .ensures) ∙ if2 .left) in
     let g = look-good (d .shared) (d .receive) (length (now (a .queue))) (a .p) _ refl none in
-    let f = ring-of (d .receive) (g .0) in
+    let f = receive-ring (d .receive) (g .0) in
     (f .within, f .first-in, omega (arith, f .count-in, g .1))
 
 returns-3 : tie.Need-returns-3

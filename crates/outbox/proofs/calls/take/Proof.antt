@@ -1,7 +1,8 @@
 use denote.Ref.{now}
 use native.Mathlib.Omega.{arith}
 use Rattle.outbox.specs.Calls.{takenOf, taken}
-use Rattle.outbox.proofs.Laws.{ring-of, found-number, found-message, take-free, read-refused, read-done}
+use Rattle.channels.proofs.Laws.{send-ring}
+use Rattle.outbox.proofs.Laws.{found-number, found-message, take-free, read-refused, read-done}
 use borrow.Author.Needs.{needs}
 use Rattle.outbox.proofs.calls.take.Statement.{statement}
 use Rattle.outbox.proofs.calls.take.Tie as tie
@@ -20,7 +21,7 @@ after-take-requires c κs =
     let a = past .before .before .args in
     let n = found-number (a .h) (a .s) (now (a .table)) (past .find .ensures) in
     let free = take-free (a .h) (a .s) (now (a .table)) _ n (c .before .before .if1 .left) in
-    let f = ring-of (a .s) (free .0) in
+    let f = send-ring (a .s) (free .0) in
     (omega (arith, f .within), f .first-in, omega (arith, free .1))
 
 returns-2 : tie.Need-returns-2

@@ -4,20 +4,21 @@ use lib.ListN.{length}
 use native.Mathlib.Omega.{arith}
 use Rattle.common.proofs.RingFacts.{slot-inside}
 use Rattle.records.specs.Messages.{messageSize}
-use Rattle.outbox.proofs.Laws.{ring-of, fits-table, oldest-as}
+use Rattle.channels.proofs.Laws.{send-ring}
+use Rattle.outbox.proofs.Laws.{fits-table, oldest-as}
 use borrow.Author.Needs.{needs}
 use Rattle.outbox.proofs.moves.oldest.Statement.{statement}
 use Rattle.outbox.proofs.moves.oldest.Tie as tie
 
 slot-of-requires : tie.Need-slot-of-requires
 slot-of-requires c κs =
-    let f = ring-of (c .before .before .args .s) (c .before .before .pre .0) in
+    let f = send-ring (c .before .before .args .s) (c .before .before .pre .0) in
     (omega (arith, f .within), f .first-in, omega arith)
 
 part-judge-message-end : tie.Need-part-judge-message-end
 part-judge-message-end c =
     let a = c .before .before .before .args in
-    let f = ring-of (a .s) (c .before .before .before .pre .0) in
+    let f = send-ring (a .s) (c .before .before .before .pre .0) in
     let long = fits-table (a .s) (length (now (a .table))) (c .before .before .before .pre .1) in
     rw (c .slot-of .ensures) (slot-inside messageSize _ _ (a .s .ring) (now (a .table)) f long)
 

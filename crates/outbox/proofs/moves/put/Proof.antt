@@ -5,20 +5,21 @@ use lib.ListN.{length}
 use native.Mathlib.Omega.{arith}
 use Rattle.common.proofs.RingFacts.{slot-inside, store-part}
 use Rattle.records.specs.Messages.{messageSize, messageBytes}
-use Rattle.outbox.proofs.Laws.{ring-of, fits-table}
+use Rattle.channels.proofs.Laws.{send-ring}
+use Rattle.outbox.proofs.Laws.{fits-table}
 use borrow.Author.Needs.{needs}
 use Rattle.outbox.proofs.moves.put.Statement.{statement}
 use Rattle.outbox.proofs.moves.put.Tie as tie
 
 slot-of-requires : tie.Need-slot-of-requires
 slot-of-requires c κs =
-    let f = ring-of (c .before .before .args .s) (c .before .before .pre .0) in
+    let f = send-ring (c .before .before .args .s) (c .before .before .pre .0) in
     (omega (arith, f .within), f .first-in, omega (arith, f .count-in))
 
 part-write-message-end : tie.Need-part-write-message-end
 part-write-message-end c =
     let a = c .before .before .before .args in
-    let f = ring-of (a .s) (c .before .before .before .pre .0) in
+    let f = send-ring (a .s) (c .before .before .before .pre .0) in
     let long = fits-table (a .s) (length (now (a .table))) (c .before .before .before .pre .1) in
     rw (c .slot-of .ensures) (slot-inside messageSize _ _ (a .s .ring) (now (a .table)) f long)
 
@@ -29,7 +30,7 @@ returns c =
     let s = older .args .s in
     let t = now (older .args .table) in
     let long = fits-table s (length t) (older .pre .1) in
-    let inside = slot-inside messageSize _ _ (s .ring) t (ring-of s (older .pre .0)) long in
+    let inside = slot-inside messageSize _ _ (s .ring) t (send-ring s (older .pre .0)) long in
     let at = ap (λ (i : ℕ). messageSize * i) (past .before .before .slot-of .ensures) in
     record {
       answer = rw (c .with-ring .ensures, c .before .with-one-more .ensures);

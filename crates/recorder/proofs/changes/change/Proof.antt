@@ -4,7 +4,7 @@ use denote.Ref.{now}
 use Rattle.common.proofs.Bools.{said, denied}
 use Rattle.records.specs.Messages.{noMessage}
 use Rattle.records.specs.Raised.{eventOf}
-use Rattle.inbox.specs.declared.Receive.{Receive}
+use Rattle.channels.specs.declared.Receive.{Receive}
 use Rattle.inbox.proofs.Laws.{next-past, room-for, built}
 use Rattle.recorder.specs.Outcomes.{lends}
 use Rattle.recorder.proofs.Meeting.{queue-met}

@@ -1,6 +1,6 @@
 use mathlib.Core.Path.{ap, _∙_}
 use denote.Ref.{now}
-use Rattle.inbox.specs.declared.Receive.{Receive}
+use Rattle.channels.specs.declared.Receive.{Receive}
 use Rattle.inbox.proofs.Laws.{room-for, built}
 use Rattle.recorder.specs.State.{withReceive, withSend}
 use Rattle.recorder.specs.Outcomes.{answers}
