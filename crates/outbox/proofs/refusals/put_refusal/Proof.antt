@@ -1,3 +1,4 @@
+use Prim.Native.Nat.{_≤_, _<_}
 use borrow.Author.Tests.{eq-eqb, ne-eqb, lt-ltb, le-ltb}
 use Rattle.common.proofs.Bools.{said, denied}
 use Rattle.outbox.specs.Refusals.{putRefusal}
@@ -18,14 +19,18 @@ unfolding putRefusal
 returns-3 c =
     let past = c .before .before .before .before in
     let able = said (past .before .is-usable .ensures) (past .if1 .left) in
-    rw (able, eq-eqb _ _ (c .before .before .before .if2 .left), lt-ltb _ _ (c .if3 .taken))
+    let s = past .before .before .args .s in
+    let room : s .ring .count < s .ring .capacity = c .if3 .taken in
+    rw (able, eq-eqb _ _ (c .before .before .before .if2 .left), lt-ltb _ _ room)
 
 returns-4 : tie.Need-returns-4
 unfolding putRefusal
 returns-4 c =
     let past = c .before .before .before .before in
     let able = said (past .before .is-usable .ensures) (past .if1 .left) in
-    rw (able, eq-eqb _ _ (c .before .before .before .if2 .left), le-ltb _ _ (c .if3 .left))
+    let s = past .before .before .args .s in
+    let full : s .ring .capacity ≤ s .ring .count = c .if3 .left in
+    rw (able, eq-eqb _ _ (c .before .before .before .if2 .left), le-ltb _ _ full)
 
 pub put-refusal-spec : {M : Type 1} → statement M
 put-refusal-spec = tie.close (tie.spec (λ c κs. search needs) returns returns-2 returns-3 returns-4)
