@@ -9,29 +9,35 @@ use lib.ListN.{length, getD, set, take, drop, drop-of-length-le}
 use lib.Seq.{take-all, slice, slice-cons, slice-empty}
 
 -- a turn of the loop that copies from the front
-copy-suc : (i : ℕ) (s d : List ℕ) → i < length s → i < length d → set (take i s ++ drop i d) i (getD s i 0) ≡ take (suc i) s ++ drop (suc i) d
+copy-suc : (i : ℕ) (s d : List ℕ) → i < length s → i < length d
+    → set (take i s ++ drop i d) i (getD s i 0) ≡ take (suc i) s ++ drop (suc i) d
 copy-suc i [] d hs hd = absurd (not-suc-le-zero hs)
 copy-suc i (x ∷ s) [] hs hd = absurd (not-suc-le-zero hd)
 copy-suc zero (x ∷ s) (y ∷ d) hs hd = refl
-copy-suc (suc i) (x ∷ s) (y ∷ d) hs hd = ap (λ (l : List ℕ). x ∷ l) (copy-suc i s d (le-of-suc-le-suc hs) (le-of-suc-le-suc hd))
+copy-suc (suc i) (x ∷ s) (y ∷ d) hs hd =
+    ap (λ (l : List ℕ). x ∷ l) (copy-suc i s d (le-of-suc-le-suc hs) (le-of-suc-le-suc hd))
 
-pub copy-more : (i : ℕ) (s d : List ℕ) → i < length s → i < length d → set (take i s ++ drop i d) i (getD s i 0) ≡ take (i + 1) s ++ drop (i + 1) d
+pub copy-more : (i : ℕ) (s d : List ℕ) → i < length s → i < length d
+    → set (take i s ++ drop i d) i (getD s i 0) ≡ take (i + 1) s ++ drop (i + 1) d
 copy-more i s d hs hd = rw (add-one) (copy-suc i s d hs hd)
 
 -- the loop has met the end of what is copied, or of where it goes
-pub copied-all : (i : ℕ) (s d : List ℕ) → i ≤ length d → i ≤ length s → length s ≤ i → take i s ++ drop i d ≡ take (length d) s ++ drop (length s) d
+pub copied-all : (i : ℕ) (s d : List ℕ) → i ≤ length d → i ≤ length s → length s ≤ i
+    → take i s ++ drop i d ≡ take (length d) s ++ drop (length s) d
 copied-all i s d hd hs end =
     let e : i ≡ length s = omega arith in
     rw (take-all i s end, take-all (length d) s (omega arith), e)
 
-pub copied-full : (i : ℕ) (s d : List ℕ) → i ≤ length d → i ≤ length s → length d ≤ i → take i s ++ drop i d ≡ take (length d) s ++ drop (length s) d
+pub copied-full : (i : ℕ) (s d : List ℕ) → i ≤ length d → i ≤ length s → length d ≤ i
+    → take i s ++ drop i d ≡ take (length d) s ++ drop (length s) d
 copied-full i s d hd hs end =
     let e : i ≡ length d = omega arith in
     rw (drop-of-length-le d {i = i} end, drop-of-length-le d {i = length s} (omega arith), e)
 
 -- what is as long as the place it is copied to fills it
 pub copy-fills : (s d : List ℕ) → length s ≡ length d → take (length d) s ++ drop (length s) d ≡ s
-copy-fills s d e = rw (take-all (length d) s (omega arith), drop-of-length-le d {i = length s} (omega arith), append-nil)
+copy-fills s d e =
+    rw (take-all (length d) s (omega arith), drop-of-length-le d {i = length s} (omega arith), append-nil)
 
 -- n entries of l from f on, each read by itself, as an array literal has them
 abbrev pub reads : List ℕ → ℕ → ℕ → List ℕ
@@ -43,7 +49,8 @@ pub reads-slice : (l : List ℕ) (f n : ℕ) → f + n ≤ length l → reads l 
 reads-slice l f zero h = rw add-zero (sym (slice-empty f l))
 reads-slice l f (suc n) h =
     let e : f + suc n ≡ suc f + n = omega arith in
-    rw e (ap (λ (r : List ℕ). getD l f 0 ∷ r) (reads-slice l (suc f) n (omega arith)) ∙ sym (slice-cons f (suc f + n) l 0 (omega arith) (omega arith)))
+    rw e (ap (λ (r : List ℕ). getD l f 0 ∷ r) (reads-slice l (suc f) n (omega arith))
+    ∙ sym (slice-cons f (suc f + n) l 0 (omega arith) (omega arith)))
 
 -- all of them are l
 pub reads-all : (l : List ℕ) (n : ℕ) → length l ≡ n → reads l 0 n ≡ l

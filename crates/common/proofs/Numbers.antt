@@ -3,7 +3,8 @@ use mathlib.Core.Path.{_≡_, refl, sym, ap, _∙_}
 use mathlib.Core.List.{List, [], _∷_, _++_}
 use mathlib.Core.Bool.{Bool, true, false, _&&_}
 use Prim.Native.Nat.{ℕ, zero, suc, _+_, _-_, _*_, _/_, _%_, _^_, _<_}
-use native.Mathlib.Nat.{pow-succ', pow-zero, mod-one, mod-lt, mod-eq-of-lt, div-add-mod, mul-assoc, add-mul-mod-self-left}
+use native.Mathlib.Nat.{pow-succ', pow-zero, mod-one, mod-lt}
+use native.Mathlib.Nat.{mod-eq-of-lt, div-add-mod, mul-assoc, add-mul-mod-self-left}
 use native.Mathlib.Omega.{arith}
 use lib.ListN.{length, getD, take, drop, replicate}
 use lib.Dec.{eqb, ltb}
@@ -38,14 +39,16 @@ bytes-back (b ∷ bs) g =
 
 -- a number is zero where its bytes are
 sum-zero : (x n : ℕ) (a b : Bool) → eqb x 0 ≡ a → eqb n 0 ≡ b → (a && b) ≡ eqb (x + 256 * n) 0
-sum-zero x n true true p q = let e = eqb-true x 0 p in let f = eqb-true n 0 q in sym (eq-eqb (x + 256 * n) 0 (omega arith))
+sum-zero x n true true p q =
+    let e = eqb-true x 0 p in let f = eqb-true n 0 q in sym (eq-eqb (x + 256 * n) 0 (omega arith))
 sum-zero x n true false p q = sym (ne-eqb (x + 256 * n) 0 (λ e. eqb-false n 0 q (omega arith)))
 sum-zero x n false b p q = sym (ne-eqb (x + 256 * n) 0 (λ e. eqb-false x 0 p (omega arith)))
 
 pub zero-number : (bs : List ℕ) → allZero bs ≡ eqb (numberOf bs) 0
 zero-number [] = refl
 zero-number (b ∷ bs) =
-    ap (λ (t : Bool). eqb b 0 && t) (zero-number bs) ∙ sum-zero b (numberOf bs) (eqb b 0) (eqb (numberOf bs) 0) refl refl
+    ap (λ (t : Bool). eqb b 0 && t) (zero-number bs)
+    ∙ sum-zero b (numberOf bs) (eqb b 0) (eqb (numberOf bs) 0) refl refl
 
 one-more : (x n m : ℕ) (a : Bool) → x < 256 → ltb n m ≡ a → a ≡ ltb (x + 256 * n) (256 * m)
 one-more x n m true h p = let e = ltb-true n m p in sym (lt-ltb (x + 256 * n) (256 * m) (omega arith))
@@ -61,12 +64,14 @@ pub zero-past : (bs : List ℕ) (n : ℕ) → Bytes bs → allZero (drop n bs) �
 zero-past bs zero g = rw pow-zero (zero-number bs ∙ below-one (numberOf bs) (eqb (numberOf bs) 0) refl)
 zero-past [] (suc n) g = sym (lt-ltb 0 (256 ^ suc n) (power-pos (suc n)))
 zero-past (b ∷ bs) (suc n) g =
-    zero-past bs n (λ i. g (suc i)) ∙ rw pow-succ' (one-more b (numberOf bs) (256 ^ n) (ltb (numberOf bs) (256 ^ n)) (g 0) refl)
+    zero-past bs n (λ i. g (suc i))
+    ∙ rw pow-succ' (one-more b (numberOf bs) (256 ^ n) (ltb (numberOf bs) (256 ^ n)) (g 0) refl)
 
 -- one byte more below
 low-step : (x n m : ℕ) → x < 256 → 0 < m → (x + 256 * n) % (256 * m) ≡ x + 256 * (n % m)
 low-step x n m h p =
-    let e : x + 256 * n ≡ (x + 256 * (n % m)) + (256 * m) * (n / m) = omega (arith, div-add-mod n m, mul-assoc 256 m (n / m)) in
+    let e : x + 256 * n ≡ (x + 256 * (n % m)) + (256 * m) * (n / m) =
+    omega (arith, div-add-mod n m, mul-assoc 256 m (n / m)) in
     let l : x + 256 * (n % m) < 256 * m = omega (arith, mod-lt n p) in
     rw e (add-mul-mod-self-left (x + 256 * (n % m)) (256 * m) (n / m) ∙ mod-eq-of-lt l)
 
@@ -75,13 +80,16 @@ no-bytes zero = refl
 no-bytes (suc w) = ap (λ (r : List ℕ). 0 ∷ r) (no-bytes w)
 
 -- the bytes of the number's lowest part are the first n, and zeros
-pub first-bytes : (bs : List ℕ) (n : ℕ) → Bytes bs → bytesOf (length bs) (numberOf bs % 256 ^ n) ≡ take n bs ++ replicate (length bs - n) 0
-first-bytes bs zero g = let e : length bs - 0 ≡ length bs = omega arith in rw (pow-zero, mod-one, e) (no-bytes (length bs))
+pub first-bytes : (bs : List ℕ) (n : ℕ) → Bytes bs
+    → bytesOf (length bs) (numberOf bs % 256 ^ n) ≡ take n bs ++ replicate (length bs - n) 0
+first-bytes bs zero g =
+    let e : length bs - 0 ≡ length bs = omega arith in rw (pow-zero, mod-one, e) (no-bytes (length bs))
 first-bytes [] (suc n) g = let e : 0 - suc n ≡ 0 = omega arith in rw e
 first-bytes (b ∷ bs) (suc n) g =
     let l : b < 256 = g 0 in
     let y = b + 256 * (numberOf bs % 256 ^ n) in
-    let e : (b + 256 * numberOf bs) % 256 ^ suc n ≡ y = rw pow-succ' (low-step b (numberOf bs) (256 ^ n) l (power-pos n)) in
+    let e : (b + 256 * numberOf bs) % 256 ^ suc n ≡ y =
+    rw pow-succ' (low-step b (numberOf bs) (256 ^ n) l (power-pos n)) in
     let f : y / 256 ≡ numberOf bs % 256 ^ n = omega arith in
     let h : y % 256 ≡ b = omega arith in
     let m : suc (length bs) - suc n ≡ length bs - n = omega arith in

@@ -22,7 +22,8 @@ pub fn number_of(a: u8, b: u8, c: u8, d: u8) -> u32
 
 // Copies src over the front of dst, as far as dst goes.
 pub fn copy(dst: &mut [u8], src: &[u8])
-    ensures { λ _. ⌜ now (dst .exit) ≡ take (length (now (dst .entry))) (now (src .entry)) ++ drop (length (now (src .entry))) (now (dst .entry)) ⌝ }
+    ensures { λ _. ⌜ now (dst .exit) ≡ take (length (now (dst .entry))) (now (src .entry))
+        ++ drop (length (now (src .entry))) (now (dst .entry)) ⌝ }
 {
     let mut i = 0;
     while i < src.len() {

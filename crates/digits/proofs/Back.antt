@@ -35,7 +35,13 @@ low-suc w n =
 -- one digit more of a number read so far
 pub grown : (w n acc : ℕ) → (acc * 16 + n / 16 ^ w % 16) * 16 ^ w + n % 16 ^ w ≡ acc * 16 ^ suc w + n % 16 ^ suc w
 grown w n acc =
-    omega (arith, low-suc w n, add-mul (acc * 16) (n / 16 ^ w % 16) (16 ^ w), mul-assoc acc 16 (16 ^ w), ap (λ (x : ℕ). acc * x) (pow-succ' 16 w))
+    omega (
+      arith,
+      low-suc w n,
+      add-mul (acc * 16) (n / 16 ^ w % 16) (16 ^ w),
+      mul-assoc acc 16 (16 ^ w),
+      ap (λ (x : ℕ). acc * x) (pow-succ' 16 w),
+    )
 
 -- the w lowest digits of a number, read behind others
 pub value-hex : (w n acc : ℕ) → value acc (hex w n) ≡ acc * 16 ^ w + n % 16 ^ w
@@ -43,7 +49,8 @@ unfolding value hex
 value-hex zero n acc = omega arith
 value-hex (suc w) n acc =
     let d : ℕ = n / 16 ^ w % 16 in
-    ap (λ (x : ℕ). value (acc * 16 + x) (hex w n)) (digit-back d (omega arith)) ∙ value-hex w n (acc * 16 + d) ∙ grown w n acc
+    ap (λ (x : ℕ). value (acc * 16 + x) (hex w n)) (digit-back d (omega arith)) ∙ value-hex w n (acc * 16 + d)
+    ∙ grown w n acc
 
 -- a number that fits its digits is read back
 pub value-back : (w n : ℕ) → n < 16 ^ w → value 0 (hex w n) ≡ n

@@ -24,7 +24,9 @@ enough zero n h = in-small zero n (omega arith) ∙ sym (in-small (suc zero) n (
 enough (suc k) n h =
     by-cases (decLt n 10)
     (λ l. in-small (suc k) n l ∙ sym (in-small (suc (suc k)) n l))
-    (λ l. in-large (suc k) n (omega arith) ∙ ap (λ (x : List ℕ). x ++ (48 + n % 10) ∷ []) (enough k (n / 10) (omega arith)) ∙ sym (in-large (suc (suc k)) n (omega arith)))
+    (λ l. in-large (suc k) n (omega arith)
+    ∙ ap (λ (x : List ℕ). x ++ (48 + n % 10) ∷ []) (enough k (n / 10) (omega arith))
+    ∙ sym (in-large (suc (suc k)) n (omega arith)))
 
 -- a number below ten is its digit
 pub decimal-small : (n : ℕ) → n < 10 → decimal n ≡ (48 + n) ∷ []

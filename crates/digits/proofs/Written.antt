@@ -27,7 +27,8 @@ pub one : (o : List ℕ) (a b : ℕ) → Put o a (b ∷ []) (set o a b) (a + 1)
 one o a b = record { bytes = refl; place = refl }
 
 -- a line written from the front on: the line, then what was there
-pub printed : {o m xs : List ℕ} {p : ℕ} → Put o 0 xs m p → length xs ≤ length o → (m ≡ xs ++ drop (length xs) o) × (p ≡ length xs)
+pub printed : {o m xs : List ℕ} {p : ℕ} → Put o 0 xs m p → length xs ≤ length o
+    → (m ≡ xs ++ drop (length xs) o) × (p ≡ length xs)
 printed {o} {m} {xs} {p} s h =
     let z : 0 + length xs ≡ length xs = zero-add (length xs) in
     (s .bytes ∙ sets-eq xs o 0 (rw z h) ∙ ap (λ (k : ℕ). xs ++ drop k o) z, s .place ∙ z)

@@ -4,7 +4,8 @@ use mathlib.Core.Bool.{_&&_, _||_}
 use lib.Dec.{leb, eqb}
 use Rattle.common.specs.Choice.{pick}
 
--- what a byte is: 17 for an end (CR, LF, zero), the value of a hexadecimal digit in either letter case, 16 for a separator, which is any other byte
+-- what a byte is: 17 for an end (CR, LF, zero), the value of a hexadecimal digit in either letter case,
+-- 16 for a separator, which is any other byte
 unfoldable pub byteKind : ℕ → ℕ
 byteKind b =
     pick (eqb b 13 || eqb b 10 || eqb b 0) 17

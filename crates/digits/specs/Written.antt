@@ -8,7 +8,8 @@ use lib.Dec.{eqb}
 use Rattle.common.specs.Choice.{pick}
 use Rattle.digits.specs.declared.Printed.{Printed}
 
--- text was put into the buffer `old` from place `at` on, every other byte was left, and `next` is the place after the text
+-- text was put into the buffer `old` from place `at` on, every other byte was left, and `next` is the place after
+-- the text
 pub record Put (old : List ℕ) (at : ℕ) (text : List ℕ) (new : List ℕ) (next : ℕ) : Type 0 where
   pub bytes : new ≡ sets old at text
   pub place : next ≡ at + length text

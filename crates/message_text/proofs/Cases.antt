@@ -33,7 +33,8 @@ takenOf align format values used =
     record { answer = Taken (headerOf align format values) used; bytes = dataOf (headerOf align format values) values }
 
 -- what holds of each refusal and of a message holds of what numbers say
-pub judged-is : (P : Said → Type 0) (align format n : ℕ) (values : List ℕ) (used : ℕ) → ((number : ℕ) → isRefusal number ≡ true → P (refused number used))
+pub judged-is : (P : Said → Type 0) (align format n : ℕ) (values : List ℕ) (used : ℕ)
+    → ((number : ℕ) → isRefusal number ≡ true → P (refused number used))
     → (TakenFacts align format n values → P (takenOf align format values used)) → P (judged align format n values used)
 unfolding judged judgedData
 judged-is P align format n values used r t =
@@ -54,8 +55,11 @@ judged-is P align format n values used r t =
     }))))))))
 
 -- and holds of what a text says where it holds of refusal 6 too
-pub read-is : (P : Said → Type 0) (align format : ℕ) (text : List ℕ) → P (refused 6 0) → ((number : ℕ) → isRefusal number ≡ true → P (refused number (usedOf text)))
-    → (TakenFacts align format (length (numbers text)) (numbers text) → P (takenOf align format (numbers text) (usedOf text))) → P (readMessage align format text)
+pub read-is : (P : Said → Type 0) (align format : ℕ) (text : List ℕ) → P (refused 6 0)
+    → ((number : ℕ) → isRefusal number ≡ true → P (refused number (usedOf text)))
+    → (TakenFacts align format (length (numbers text)) (numbers text)
+    → P (takenOf align format (numbers text) (usedOf text))) → P (readMessage align format text)
 unfolding readMessage
 read-is P align format text six r t =
-    pick-is P (ltb (beforeEnd text) (length text)) (λ e. judged-is P align format (length (numbers text)) (numbers text) (usedOf text) r t) (λ e. six)
+    pick-is P (ltb (beforeEnd text) (length text))
+    (λ e. judged-is P align format (length (numbers text)) (numbers text) (usedOf text) r t) (λ e. six)

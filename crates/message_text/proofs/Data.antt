@@ -26,7 +26,8 @@ pub bytes-stop : (xs : List ℕ) (k : ℕ) → k < length xs → 256 ≤ getD xs
 unfolding allBytes
 bytes-stop xs k h l = rw (here xs k h, le-ltb (getD xs k 0) 256 l)
 
-pub bytes-more : (xs : List ℕ) (k : ℕ) → k < length xs → getD xs k 0 < 256 → allBytes (drop k xs) ≡ allBytes (drop (k + 1) xs)
+pub bytes-more : (xs : List ℕ) (k : ℕ) → k < length xs → getD xs k 0 < 256
+    → allBytes (drop k xs) ≡ allBytes (drop (k + 1) xs)
 unfolding allBytes
 bytes-more xs k h l = rw (here xs k h, lt-ltb (getD xs k 0) 256 l)
 
@@ -42,10 +43,12 @@ byte-at (x ∷ xs) (suc k) e = byte-at xs k (and-right (ltb x 256) (allBytes xs)
 abbrev pub dataSoFar : List ℕ → ℕ → List ℕ
 dataSoFar at k = take k (drop 3 at) ++ drop k (replicate 8 0)
 
-pub data-more : (at : List ℕ) (k : ℕ) → length at ≡ 11 → k < 8 → allBytes (drop 3 at) ≡ true → set (dataSoFar at k) k (getD at (k + 3) 0 % 256) ≡ dataSoFar at (k + 1)
+pub data-more : (at : List ℕ) (k : ℕ) → length at ≡ 11 → k < 8 → allBytes (drop 3 at) ≡ true
+    → set (dataSoFar at k) k (getD at (k + 3) 0 % 256) ≡ dataSoFar at (k + 1)
 data-more at k l h e =
     let b = byte-at (drop 3 at) k e in
-    let g : getD (drop 3 at) k 0 ≡ getD at (k + 3) 0 = getD-drop 3 at k 0 ∙ ap (λ (n : ℕ). getD at n 0) (add-comm 3 k) in
+    let g : getD (drop 3 at) k 0 ≡ getD at (k + 3) 0 =
+    getD-drop 3 at k 0 ∙ ap (λ (n : ℕ). getD at n 0) (add-comm 3 k) in
     let m : getD at (k + 3) 0 % 256 ≡ getD (drop 3 at) k 0 = omega arith in
     rw m (copy-more k (drop 3 at) (replicate 8 0) (omega (arith, length-drop 3 at)) (omega arith))
 
@@ -76,9 +79,12 @@ unfolding allBytes
 padded-bytes zero [] h = refl
 padded-bytes (suc m) [] h = padded-bytes m [] (omega arith)
 padded-bytes zero (v ∷ values) h = absurd (omega arith)
-padded-bytes (suc m) (v ∷ values) h = ap allBytes (padded-one m v values) ∙ ap₂ _&&_ (capped-ltb v 256 (omega arith)) (padded-bytes m values (omega arith))
+padded-bytes (suc m) (v ∷ values) h =
+    ap allBytes (padded-one m v values)
+    ∙ ap₂ _&&_ (capped-ltb v 256 (omega arith)) (padded-bytes m values (omega arith))
 
-pub padded-take : (m n : ℕ) (values : List ℕ) → n ≤ length values → length values ≤ m → allBytes values ≡ true → take n (padded m values) ≡ take n values
+pub padded-take : (m n : ℕ) (values : List ℕ) → n ≤ length values → length values ≤ m → allBytes values ≡ true
+    → take n (padded m values) ≡ take n values
 unfolding allBytes
 padded-take m zero values h l e = refl
 padded-take m (suc n) [] h l e = absurd (omega arith)

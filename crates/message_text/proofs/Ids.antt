@@ -22,19 +22,25 @@ raw-large align f v h =
     let w = idBits f in
     let low = idLow f align in
     let fits : w + low ≤ 32 = omega (arith, id-in-word f align low w refl refl) in
-    let large : 2 ^ w ≤ v / 2 ^ low = rw (pow-add 2 w low, shl-shr (2 ^ w) low) at (shr-mono low (le-trans (pow-mono fits) h)) in
+    let large : 2 ^ w ≤ v / 2 ^ low =
+    rw (pow-add 2 w low, shl-shr (2 ^ w) low) at (shr-mono low (le-trans (pow-mono fits) h)) in
     rw (le-ltb (v / 2 ^ low) (2 ^ w) large, and-false)
 
 -- so a capped number is the identifier that the number itself is
 pub raw-capped : (align f v : ℕ) → rawOf align f (capped v) ≡ rawOf align f v
-raw-capped align f v = capped-cong (rawOf align f) v (λ h. raw-large align f (2 ^ 32) (omega arith) ∙ sym (raw-large align f v (omega arith)))
+raw-capped align f v =
+    capped-cong (rawOf align f) v (λ h. raw-large align f (2 ^ 32) (omega arith)
+    ∙ sym (raw-large align f v (omega arith)))
 
 -- an identifier that is not bad has a format, and lies within its 11 or 29 bits
-pub raw-good : (align f v : ℕ) → isBad (rawOf align f v) ≡ false → (isFormat f ≡ true) × (idNumber (rawOf align f v) < 2 ^ idBits f)
+pub raw-good : (align f v : ℕ) → isBad (rawOf align f v) ≡ false
+    → (isFormat f ≡ true) × (idNumber (rawOf align f v) < 2 ^ idBits f)
 unfolding rawOf
-raw-good align f v e = by (leb align 3) (isFormat f) (eqb (v % 2 ^ idLow f align) 0) (ltb (v / 2 ^ idLow f align) (2 ^ idBits f)) refl e
+raw-good align f v e =
+    by (leb align 3) (isFormat f) (eqb (v % 2 ^ idLow f align) 0) (ltb (v / 2 ^ idLow f align) (2 ^ idBits f)) refl e
   where
-    by : (a k z t : Bool) → ltb (v / 2 ^ idLow f align) (2 ^ idBits f) ≡ t → isBad (pick (a && k && z && t) (Good (v / 2 ^ idLow f align)) Bad) ≡ false
+    by : (a k z t : Bool) → ltb (v / 2 ^ idLow f align) (2 ^ idBits f) ≡ t
+        → isBad (pick (a && k && z && t) (Good (v / 2 ^ idLow f align)) Bad) ≡ false
         → (k ≡ true) × (idNumber (pick (a && k && z && t) (Good (v / 2 ^ idLow f align)) Bad) < 2 ^ idBits f)
     by true true true true q e = (refl, ltb-true (v / 2 ^ idLow f align) (2 ^ idBits f) q)
     by true true true false q e = absurd (apart e)

@@ -53,10 +53,12 @@ module _ (a b c : ℕ) (values : List ℕ) (used : ℕ) where
       (pick-same (not (allBytes values)) (λ g. refl)
       (λ g.
       ap (λ (d : List ℕ). record { answer = Taken h used; bytes = d ++ replicate (8 - carried h) 0 })
-      (padded-take 8 (carried h) values (omega (arith, ltb-false n (3 + carried h) e)) l (not-false (allBytes values) g)))))))
+      (padded-take 8 (carried h) values (omega (arith, ltb-false n (3 + carried h) e)) l
+      (not-false (allBytes values) g)))))))
 
   same-judged : (align format : ℕ)
-      → judged align format (min 12 (length (a ∷ b ∷ c ∷ values))) (capped a ∷ capped b ∷ capped c ∷ padded 8 values) used
+      → judged align format (min 12 (length (a ∷ b ∷ c ∷ values)))
+      (capped a ∷ capped b ∷ capped c ∷ padded 8 values) used
       ≡ judged align format (length (a ∷ b ∷ c ∷ values)) (a ∷ b ∷ c ∷ values) used
   unfolding judged
   same-judged align format =
@@ -73,22 +75,27 @@ module _ (a b c : ℕ) (values : List ℕ) (used : ℕ) where
 
 -- the numbers kept say what all the numbers say
 kept-judged : (align format : ℕ) (values : List ℕ) (used : ℕ)
-    → judged align format (keptOf values .count) (keptOf values .at) used ≡ judged align format (length values) values used
+    → judged align format (keptOf values .count) (keptOf values .at) used
+    ≡ judged align format (length values) values used
 unfolding keptFrom judged
 kept-judged align format [] used = refl
 kept-judged align format (a ∷ []) used = refl
 kept-judged align format (a ∷ b ∷ []) used = refl
 kept-judged align format (a ∷ b ∷ c ∷ values) used =
-    let n : 0 + suc (suc (suc (length (map capped values)))) ≡ suc (suc (suc (length values))) = omega (arith, length-map values capped) in
+    let n : 0 + suc (suc (suc (length (map capped values)))) ≡ suc (suc (suc (length values))) =
+    omega (arith, length-map values capped) in
     rw (n, three) (same-judged a b c values used align format)
   where
     three : padded 11 (a ∷ b ∷ c ∷ values) ≡ capped a ∷ capped b ∷ capped c ∷ padded 8 values
     three =
         padded-one 10 a (b ∷ c ∷ values)
-        ∙ ap (λ (l : List ℕ). capped a ∷ l) (padded-one 9 b (c ∷ values) ∙ ap (λ (l : List ℕ). capped b ∷ l) (padded-one 8 c values))
+        ∙ ap (λ (l : List ℕ). capped a ∷ l) (padded-one 9 b (c ∷ values)
+        ∙ ap (λ (l : List ℕ). capped b ∷ l) (padded-one 8 c values))
 
 -- so a text with an end says what was judged of the numbers kept
-pub text-judged : (align format : ℕ) (t : List ℕ) (k : Kept) (used : ℕ) {r : Said} → beforeEnd t < length t → k ≡ keptOf (numbers t) → used ≡ usedOf t
+pub text-judged : (align format : ℕ) (t : List ℕ) (k : Kept) (used : ℕ) {r : Said} → beforeEnd t < length t
+    → k ≡ keptOf (numbers t) → used ≡ usedOf t
     → r ≡ judged align format (k .count) (k .at) used → r ≡ readMessage align format t
 unfolding readMessage
-text-judged align format t k used h e u j = j ∙ rw (e, u, lt-ltb (beforeEnd t) (length t) h) (kept-judged align format (numbers t) (usedOf t))
+text-judged align format t k used h e u j =
+    j ∙ rw (e, u, lt-ltb (beforeEnd t) (length t) h) (kept-judged align format (numbers t) (usedOf t))

@@ -7,7 +7,8 @@ use borrow.Author.Tests.{lt-ltb, le-ltb, ne-eqb}
 use lib.ListN.{length, getD, drop, set, replicate, length-set, drop-of-length-le}
 use lib.Seq.{sets, set-out}
 use Rattle.digits.specs.Reading.{byteKind, capped}
-use Rattle.message_text.specs.Numbers.{Place, between, within, ended, grown, isEnd, isDigit, numbersFrom, numbers, beforeEnd}
+use Rattle.message_text.specs.Numbers.{Place, between, within, ended, grown}
+use Rattle.message_text.specs.Numbers.{isEnd, isDigit, numbersFrom, numbers, beforeEnd}
 use Rattle.message_text.specs.Scan.{kept, keptMore, keptFrom, keptOf, ScanMet}
 use Rattle.message_text.specs.declared.Kept.{Kept}
 use Rattle.common.proofs.Choices.{by-test}
@@ -37,7 +38,8 @@ module _ (p : Place) (t : List ℕ) (i : ℕ) {k : ℕ} (h : i < length t) (q : 
 -- ---- the numbers as they are kept
 
 -- a number that is capped so far is capped in the end
-same-capped : (v w : ℕ) → capped v ≡ capped w → (t : List ℕ) → map capped (numbersFrom (within v) t) ≡ map capped (numbersFrom (within w) t)
+same-capped : (v w : ℕ) → capped v ≡ capped w → (t : List ℕ)
+    → map capped (numbersFrom (within v) t) ≡ map capped (numbersFrom (within w) t)
 unfolding numbersFrom
 same-capped v w q [] = ap (λ (x : ℕ). x ∷ []) q
 same-capped v w q (b ∷ t) =
@@ -85,7 +87,8 @@ kept-full k xs h l =
 
 -- ---- the scan
 
--- where the scan stands at place p before byte i, and has kept k: the numbers from there on are still to be kept, and no end stands before
+-- where the scan stands at place p before byte i, and has kept k: the numbers from there on are still to be kept,
+-- and no end stands before
 pub record Going (text : List ℕ) (p : Place) (k : Kept) (i : ℕ) : Type 0 where
   pub inside : i ≤ length text
   pub room : k .count ≤ 12
@@ -98,7 +101,8 @@ start text = record { inside = omega arith; room = omega arith; size = refl; mor
 
 module _ {text : List ℕ} {k : Kept} {i : ℕ} where
   -- the scan goes on from j at place q, where as much is still to be kept
-  on : {p : Place} → Going text p k i → (q : Place) (j : ℕ) → j ≤ length text → map capped (numbersFrom p (drop i text)) ≡ map capped (numbersFrom q (drop j text))
+  on : {p : Place} → Going text p k i → (q : Place) (j : ℕ) → j ≤ length text
+      → map capped (numbersFrom p (drop i text)) ≡ map capped (numbersFrom q (drop j text))
       → i + beforeEnd (drop i text) ≡ j + beforeEnd (drop j text) → Going text q k j
   on g q j l e f = record {
     inside = l;
@@ -109,14 +113,18 @@ module _ {text : List ℕ} {k : Kept} {i : ℕ} where
   }
 
   -- a digit
-  pub digit : {p : Place} → Going text p k i → {b : ℕ} → i < length text → b ≡ byteKind (getD text i 0) → b < 16 → Going text (grown p b) k (i + 1)
+  pub digit : {p : Place} → Going text p k i → {b : ℕ} → i < length text → b ≡ byteKind (getD text i 0) → b < 16
+      → Going text (grown p b) k (i + 1)
   digit {p} g {b} h q d =
-      on g (grown p b) (i + 1) (omega arith) (ap (map capped) (numbers-digit p text i h q d)) (omega (arith, before-more text i h q (omega arith)))
+      on g (grown p b) (i + 1) (omega arith) (ap (map capped) (numbers-digit p text i h q d))
+      (omega (arith, before-more text i h q (omega arith)))
 
   -- a separator between two numbers
-  pub separator : Going text between k i → {b : ℕ} → i < length text → b ≡ byteKind (getD text i 0) → (b ≡ 17 → ⊥) → 16 ≤ b → Going text between k (i + 1)
+  pub separator : Going text between k i → {b : ℕ} → i < length text → b ≡ byteKind (getD text i 0) → (b ≡ 17 → ⊥)
+      → 16 ≤ b → Going text between k (i + 1)
   separator g h q n s =
-      on g between (i + 1) (omega arith) (ap (map capped) (numbers-separator between text i h q n s)) (omega (arith, before-more text i h q n))
+      on g between (i + 1) (omega arith) (ap (map capped) (numbers-separator between text i h q n s))
+      (omega (arith, before-more text i h q n))
 
   -- the number read so far, capped
   pub cut : {v w : ℕ} → Going text (within v) k i → w ≡ capped v → Going text (within w) k i
@@ -138,17 +146,26 @@ module _ {text : List ℕ} {k : Kept} {i : ℕ} where
 
     -- behind the last byte, at an end, or behind a separator
     pub whole-last : length text ≤ i → Going text between (keptMore k v) i
-    whole-last l = whole i (g .inside) (numbers-last (within v) text i l ∙ ap (λ (r : List ℕ). v ∷ r) (sym (numbers-last between text i l))) refl
+    whole-last l =
+        whole i (g .inside) (numbers-last (within v) text i l
+        ∙ ap (λ (r : List ℕ). v ∷ r) (sym (numbers-last between text i l))) refl
 
-    pub whole-end : {b : ℕ} → i < length text → b ≡ byteKind (getD text i 0) → b ≡ 17 → Going text between (keptMore k v) i
-    whole-end h q e = whole i (g .inside) (numbers-end (within v) text i h q e ∙ ap (λ (r : List ℕ). v ∷ r) (sym (numbers-end between text i h q e))) refl
+    pub whole-end : {b : ℕ} → i < length text → b ≡ byteKind (getD text i 0) → b ≡ 17
+        → Going text between (keptMore k v) i
+    whole-end h q e =
+        whole i (g .inside) (numbers-end (within v) text i h q e
+        ∙ ap (λ (r : List ℕ). v ∷ r) (sym (numbers-end between text i h q e))) refl
 
-    pub whole-separator : {b : ℕ} → i < length text → b ≡ byteKind (getD text i 0) → (b ≡ 17 → ⊥) → 16 ≤ b → Going text between (keptMore k v) (i + 1)
-    whole-separator h q n s = whole (i + 1) (omega arith) (numbers-separator (within v) text i h q n s) (omega (arith, before-more text i h q n))
+    pub whole-separator : {b : ℕ} → i < length text → b ≡ byteKind (getD text i 0) → (b ≡ 17 → ⊥) → 16 ≤ b
+        → Going text between (keptMore k v) (i + 1)
+    whole-separator h q n s =
+        whole (i + 1) (omega arith) (numbers-separator (within v) text i h q n s)
+        (omega (arith, before-more text i h q n))
 
   -- the scan is over
   module _ (g : Going text between k i) where
-    met : (xs : List ℕ) → numbersFrom between (drop i text) ≡ xs → keptFrom (k .at) (k .count) (map capped xs) ≡ k → ScanMet text (record { kept = k; stop = i })
+    met : (xs : List ℕ) → numbersFrom between (drop i text) ≡ xs → keptFrom (k .at) (k .count) (map capped xs) ≡ k
+        → ScanMet text (record { kept = k; stop = i })
     met xs e f = record {
       kept = sym (g .more ∙ ap (λ (l : List ℕ). keptFrom (k .at) (k .count) (map capped l)) e ∙ f);
       inside = g .inside;
@@ -159,8 +176,11 @@ module _ {text : List ℕ} {k : Kept} {i : ℕ} where
     pub met-last : length text ≤ i → ScanMet text (record { kept = k; stop = i })
     met-last l = met [] (numbers-last between text i l) (kept-done k (g .room))
 
-    pub met-end : {b : ℕ} → i < length text → b ≡ byteKind (getD text i 0) → b ≡ 17 → ScanMet text (record { kept = k; stop = i })
+    pub met-end : {b : ℕ} → i < length text → b ≡ byteKind (getD text i 0) → b ≡ 17
+        → ScanMet text (record { kept = k; stop = i })
     met-end h q e = met [] (numbers-end between text i h q e) (kept-done k (g .room))
 
     pub met-full : k .count ≡ 12 → ScanMet text (record { kept = k; stop = i })
-    met-full e = met (numbersFrom between (drop i text)) refl (kept-full k (map capped (numbersFrom between (drop i text))) e (g .size))
+    met-full e =
+        met (numbersFrom between (drop i text)) refl (kept-full k (map capped (numbersFrom between (drop i text)))
+        e (g .size))

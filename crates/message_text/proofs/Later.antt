@@ -8,7 +8,8 @@ use lib.ListN.{length, take, drop, length-append, length-drop}
 use lib.Seq.{take-add, drop-at, length-take-le}
 use Rattle.common.specs.Choice.{pick}
 use Rattle.common.proofs.Bools.{apart}
-use Rattle.message_text.specs.Numbers.{Place, between, ended, after, isEnd, isDigit, numbersFrom, numbers, beforeEnd, endRun, usedOf}
+use Rattle.message_text.specs.Numbers.{Place, between, ended, after, isEnd, isDigit}
+use Rattle.message_text.specs.Numbers.{numbersFrom, numbers, beforeEnd, endRun, usedOf}
 use Rattle.message_text.specs.Reading.{readMessage, refused, numberOf, usedBy}
 use Rattle.common.proofs.Choices.{by-test, pick-is, pick-same}
 use Rattle.message_text.proofs.Cases.{isRefusal, judged-is}
@@ -42,27 +43,32 @@ run-some (b ∷ t) h =
 -- ---- a text that is cut behind its first end, and goes on otherwise
 
 module _ (more : List ℕ) where
-  before-cut : (t : List ℕ) (n : ℕ) → beforeEnd t < n → beforeEnd t < length t → beforeEnd (take n t ++ more) ≡ beforeEnd t
+  before-cut : (t : List ℕ) (n : ℕ) → beforeEnd t < n → beforeEnd t < length t
+      → beforeEnd (take n t ++ more) ≡ beforeEnd t
   unfolding beforeEnd
   before-cut [] n h l = absurd (omega arith)
   before-cut (b ∷ t) zero h l = absurd (omega arith)
   before-cut (b ∷ t) (suc n) h l =
-      pick-same (isEnd b) (λ e. refl) (λ e. ap (λ (k : ℕ). 1 + k) (before-cut t n (omega (arith, rw e at h)) (omega (arith, rw e at l))))
+      pick-same (isEnd b) (λ e. refl) (λ e. ap (λ (k : ℕ). 1 + k)
+      (before-cut t n (omega (arith, rw e at h)) (omega (arith, rw e at l))))
 
-  numbers-cut : (p : Place) (t : List ℕ) (n : ℕ) → beforeEnd t < n → beforeEnd t < length t → numbersFrom p (take n t ++ more) ≡ numbersFrom p t
+  numbers-cut : (p : Place) (t : List ℕ) (n : ℕ) → beforeEnd t < n → beforeEnd t < length t
+      → numbersFrom p (take n t ++ more) ≡ numbersFrom p t
   unfolding beforeEnd numbersFrom
   numbers-cut p [] n h l = absurd (omega arith)
   numbers-cut p (b ∷ t) zero h l = absurd (omega arith)
   numbers-cut p (b ∷ t) (suc n) h l =
       pick-same (isEnd b) (λ e. refl)
-      (λ e. ap (λ (r : List ℕ). pick (isDigit b) [] (ended p) ++ r) (numbers-cut (after p b) t n (omega (arith, rw e at h)) (omega (arith, rw e at l))))
+      (λ e. ap (λ (r : List ℕ). pick (isDigit b) [] (ended p) ++ r)
+      (numbers-cut (after p b) t n (omega (arith, rw e at h)) (omega (arith, rw e at l))))
 
   run-cut : endRun more ≡ 0 → (t : List ℕ) → endRun (take (endRun t) t ++ more) ≡ endRun t
   unfolding endRun
   run-cut s [] = s
   run-cut s (b ∷ t) =
       by-test (isEnd b)
-      (λ e. let o : 1 + endRun t ≡ suc (endRun t) = omega arith in rw (e, o, e) (ap (λ (k : ℕ). 1 + k) (run-cut s t) ∙ o))
+      (λ e. let o : 1 + endRun t ≡ suc (endRun t) = omega arith in
+      rw (e, o, e) (ap (λ (k : ℕ). 1 + k) (run-cut s t) ∙ o))
       (λ e. rw e s)
 
 -- the text with an end, cut behind the bytes used, and going on with bytes that do not begin with an end
@@ -78,16 +84,19 @@ module _ (text more : List ℕ) (has : beforeEnd text < length text) (stop : end
       let n = beforeEnd text in
       let r = drop n text in
       let d : drop n cut ≡ take (endRun r) r ++ more
-      = ap (drop n) (ap (λ (l : List ℕ). l ++ more) (take-add n (endRun r) text) ∙ append-assoc (take n text) (take (endRun r) r) more)
+      = ap (drop n) (ap (λ (l : List ℕ). l ++ more) (take-add n (endRun r) text)
+      ∙ append-assoc (take n text) (take (endRun r) r) more)
       ∙ drop-at (take n text) (take (endRun r) r ++ more) n (length-take-le n text (omega arith)) in
       rw (same-before, d) (ap (λ (k : ℕ). n + k) (run-cut more stop r))
 
   -- what follows the bytes used changes nothing: such a text says what the whole text says
-  pub later : (align format : ℕ) → readMessage align format (take (usedOf text) text ++ more) ≡ readMessage align format text
+  pub later : (align format : ℕ)
+      → readMessage align format (take (usedOf text) text ++ more) ≡ readMessage align format text
   unfolding readMessage
   later align format =
       let l : length (take (usedOf text) text) ≡ usedOf text = length-take-le (usedOf text) text (used-inside text) in
-      let h : beforeEnd cut < length cut = omega (arith, same-before, run-some text has, length-append (take (usedOf text) text) more) in
+      let h : beforeEnd cut < length cut =
+      omega (arith, same-before, run-some text has, length-append (take (usedOf text) text) more) in
       rw (
         lt-ltb (beforeEnd cut) (length cut) h,
         lt-ltb (beforeEnd text) (length text) has,
@@ -96,21 +105,25 @@ module _ (text more : List ℕ) (has : beforeEnd text < length text) (stop : end
       )
 
 -- a text with no end is refused with 6, and 0 bytes are used
-pub used-none : (align format : ℕ) (text : List ℕ) → beforeEnd text ≡ length text → readMessage align format text ≡ refused 6 0
+pub used-none : (align format : ℕ) (text : List ℕ) → beforeEnd text ≡ length text
+    → readMessage align format text ≡ refused 6 0
 unfolding readMessage
 used-none align format text e = rw (le-ltb (beforeEnd text) (length text) (omega arith))
 
 -- every other text uses at least one byte, refused or not: through the run of ends
-pub used-some : (align format : ℕ) (text : List ℕ) → beforeEnd text < length text → (usedBy (readMessage align format text .answer) ≡ usedOf text) × (0 < usedOf text)
+pub used-some : (align format : ℕ) (text : List ℕ) → beforeEnd text < length text
+    → (usedBy (readMessage align format text .answer) ≡ usedOf text) × (0 < usedOf text)
 unfolding readMessage
 used-some align format text has = (
   rw (lt-ltb (beforeEnd text) (length text) has)
-      (judged-is (λ s. usedBy (s .answer) ≡ usedOf text) align format (length (numbers text)) (numbers text) (usedOf text) (λ number l. refl) (λ t. refl)),
+      (judged-is (λ s. usedBy (s .answer) ≡ usedOf text) align format (length (numbers text)) (numbers text)
+      (usedOf text) (λ number l. refl) (λ t. refl)),
   omega (arith, run-some text has),
 )
 
 -- and 6 is not its number
-pub six-none : (align format : ℕ) (text : List ℕ) → beforeEnd text < length text → numberOf (readMessage align format text .answer) ≡ 6 → ⊥
+pub six-none : (align format : ℕ) (text : List ℕ) → beforeEnd text < length text
+    → numberOf (readMessage align format text .answer) ≡ 6 → ⊥
 unfolding readMessage
 six-none align format text has =
     rw (lt-ltb (beforeEnd text) (length text) has)

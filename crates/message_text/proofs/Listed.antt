@@ -15,11 +15,13 @@ abbrev pub listed : ℕ → Bool
 listed n = eqb n 0 || eqb n 6 || isRefusal n
 
 -- the number of the answer is 0, 6, 7, 8, 9, 10, 11 or 12 for every text
-pub number-listed : (align format : ℕ) (text : List ℕ) → listed (numberOf (readMessage align format text .answer)) ≡ true
+pub number-listed : (align format : ℕ) (text : List ℕ)
+    → listed (numberOf (readMessage align format text .answer)) ≡ true
 number-listed align format text =
     read-is (λ s. listed (numberOf (s .answer)) ≡ true) align format text refl (λ number l. rw (l, or-true)) (λ t. refl)
 
 -- a refused reading has zeros for data bytes
-pub refused-zero : (align format : ℕ) (text : List ℕ) {number used : ℕ} {b : List ℕ} → readMessage align format text ≡ record { answer = Refused number used; bytes = b }
+pub refused-zero : (align format : ℕ) (text : List ℕ) {number used : ℕ} {b : List ℕ}
+    → readMessage align format text ≡ record { answer = Refused number used; bytes = b }
     → b ≡ replicate 8 0
 refused-zero align format text e = rw e at (read-fit align format text)

@@ -28,21 +28,26 @@ use Rattle.message_text.proofs.Length.{message-line-le}
 
 -- ---- a message with a good header
 
-module _ (align : ℕ) (m : Message) {a : Id} (l : align ≤ 3) (g : headerRefusal (m .header) ≡ 0) (e : a ≡ aligned align (m .header .format) (m .header .id)) where
+module _ (align : ℕ) (m : Message) {a : Id} (l : align ≤ 3) (g : headerRefusal (m .header) ≡ 0)
+    (e : a ≡ aligned align (m .header .format) (m .header .id)) where
   id-good : a ≡ Good (shownId align (m .header))
-  id-good = let f = good-header (m .header) g in e ∙ good-aligned align (m .header .format) (m .header .id) l (f .format) (f .id)
+  id-good =
+      let f = good-header (m .header) g in
+      e ∙ good-aligned align (m .header .format) (m .header .id) l (f .format) (f .id)
 
   -- its identifier is never bad
   pub id-not-bad : a ≡ Bad → ⊥
   id-not-bad q = let p = id-good in let z : _≡_ {A = ℕ} 0 1 = cc in omega arith
 
   -- its line is printed
-  pub message-printed : {id p : ℕ} {old new : List ℕ} → a ≡ Good id → 37 ≤ length old → Put old 0 (messageText id (m .header) (m .bytes)) new p
+  pub message-printed : {id p : ℕ} {old new : List ℕ} → a ≡ Good id → 37 ≤ length old
+      → Put old 0 (messageText id (m .header) (m .bytes)) new p
       → Prints (messageRefusal align m (length old)) (messageLine align m) old (record { number = 0; length = p }) new
   unfolding messageRefusal messageLine
   message-printed {id} {old = old} q h s =
       let i : id ≡ shownId align (m .header) = let p = id-good in cc in
-      line-printed (rw i at s) (omega (arith, message-line-le align m)) (passed 37 align (headerRefusal (m .header)) (length old) h l ∙ g)
+      line-printed (rw i at s) (omega (arith, message-line-le align m))
+      (passed 37 align (headerRefusal (m .header)) (length old) h l ∙ g)
 
 -- ---- a message record
 
@@ -62,7 +67,8 @@ module _ (s : List ℕ) (j : JudgedMessage) (e : j ≡ judgeMessage s) where
   header-is h =
       let m = judgeMessage s .message in
       let g = judged-good s (good-is s ∙ said good h) in
-      rw e (eqb-true (headerRefusal (m .header)) 0 (and-left (eqb (headerRefusal (m .header)) 0) (allZero (drop (carried (m .header)) (m .bytes))) g))
+      rw e (eqb-true (headerRefusal (m .header)) 0 (and-left (eqb (headerRefusal (m .header)) 0)
+      (allZero (drop (carried (m .header)) (m .bytes))) g))
 
   -- a good one is printed as its message
   pub record-printed : (align : ℕ) {old new : List ℕ} {r : Printed} → not (j .good) ≡ false

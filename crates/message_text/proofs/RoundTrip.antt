@@ -25,7 +25,8 @@ use Rattle.ids.proofs.Frames.{HeaderFacts, good-header, carried-le}
 use Rattle.ids.proofs.RoundTrip.{good-aligned, read-back}
 use Rattle.records.specs.Messages.{goodMessage}
 use Rattle.records.specs.declared.Message.{Message}
-use Rattle.message_text.specs.Numbers.{Place, between, within, grown, isEnd, numbersFrom, numbers, beforeEnd, endRun, usedOf}
+use Rattle.message_text.specs.Numbers.{Place, between, within, grown, isEnd}
+use Rattle.message_text.specs.Numbers.{numbersFrom, numbers, beforeEnd, endRun, usedOf}
 use Rattle.message_text.specs.Reading.{allBytes, judgedData, judged, readMessage}
 use Rattle.message_text.specs.Printing.{messageText, messageLine}
 use Rattle.message_text.specs.declared.Answer.the-variants.{Taken}
@@ -38,19 +39,23 @@ unfolding numbersFrom
 digit p d t h = rw (digit-back d h, ne-eqb d 17 (omega arith), lt-ltb d 16 h)
 
 -- the w lowest digits of a number, read behind others
-within-hex : (w n v : ℕ) (t : List ℕ) → numbersFrom (within v) (hex w n ++ t) ≡ numbersFrom (within (v * 16 ^ w + n % 16 ^ w)) t
+within-hex : (w n v : ℕ) (t : List ℕ)
+    → numbersFrom (within v) (hex w n ++ t) ≡ numbersFrom (within (v * 16 ^ w + n % 16 ^ w)) t
 unfolding hex
 within-hex zero n v t = let e : v ≡ v * 16 ^ 0 + n % 16 ^ 0 = omega arith in ap (λ (x : ℕ). numbersFrom (within x) t) e
 within-hex (suc w) n v t =
     let d : ℕ = n / 16 ^ w % 16 in
-    digit (within v) d (hex w n ++ t) (omega arith) ∙ within-hex w n (v * 16 + d) t ∙ ap (λ (x : ℕ). numbersFrom (within x) t) (value-grown w n v)
+    digit (within v) d (hex w n ++ t) (omega arith) ∙ within-hex w n (v * 16 + d) t
+    ∙ ap (λ (x : ℕ). numbersFrom (within x) t) (value-grown w n v)
 
 -- a number that fits its digits
-between-hex : (w n : ℕ) (t : List ℕ) → n < 16 ^ suc w → numbersFrom between (hex (suc w) n ++ t) ≡ numbersFrom (within n) t
+between-hex : (w n : ℕ) (t : List ℕ) → n < 16 ^ suc w
+    → numbersFrom between (hex (suc w) n ++ t) ≡ numbersFrom (within n) t
 unfolding hex
 between-hex w n t h =
     let d : ℕ = n / 16 ^ w % 16 in
-    digit between d (hex w n ++ t) (omega arith) ∙ within-hex w n d t ∙ ap (λ (x : ℕ). numbersFrom (within x) t) (sym (low-suc w n) ∙ mod-eq-of-lt h)
+    digit between d (hex w n ++ t) (omega arith) ∙ within-hex w n d t
+    ∙ ap (λ (x : ℕ). numbersFrom (within x) t) (sym (low-suc w n) ∙ mod-eq-of-lt h)
 
 -- a blank leaves a number, LF ends the text
 blank : (v : ℕ) (t : List ℕ) → numbersFrom (within v) (32 ∷ t) ≡ v ∷ numbersFrom between t
@@ -69,10 +74,13 @@ bytes-read v (b ∷ bs) e =
     let l : b < 256 = ltb-true b 256 (and-left (ltb b 256) (allBytes bs) e) in
     let t = fields 32 bs ++ (10 ∷ []) in
     rw (append-assoc (32 ∷ hex 2 b) (fields 32 bs) (10 ∷ []))
-    (blank v (hex 2 b ++ t) ∙ ap (λ (x : List ℕ). v ∷ x) (between-hex 1 b t (omega arith) ∙ bytes-read b bs (and-right (ltb b 256) (allBytes bs) e)))
+    (blank v (hex 2 b ++ t)
+    ∙ ap (λ (x : List ℕ). v ∷ x) (between-hex 1 b t (omega arith)
+    ∙ bytes-read b bs (and-right (ltb b 256) (allBytes bs) e)))
 
 -- the numbers of a line are its fields
-line-numbers : (id : ℕ) (h : Header) (b : List ℕ) → id < 2 ^ 32 → h .rtr ≤ 1 → h .dlc ≤ 15 → allBytes (take (carried h) b) ≡ true
+line-numbers : (id : ℕ) (h : Header) (b : List ℕ) → id < 2 ^ 32 → h .rtr ≤ 1 → h .dlc ≤ 15
+    → allBytes (take (carried h) b) ≡ true
     → numbers (messageText id h b) ≡ id ∷ h .rtr ∷ h .dlc ∷ take (carried h) b
 unfolding messageText
 line-numbers id h b i r d e =
@@ -86,7 +94,8 @@ line-numbers id h b i r d e =
     ∙ ap (λ (x : List ℕ). id ∷ x)
     (between-hex 0 (h .rtr) (32 ∷ s) (omega arith)
     ∙ blank (h .rtr) s
-    ∙ ap (λ (x : List ℕ). h .rtr ∷ x) (between-hex 0 (h .dlc) t (omega arith) ∙ bytes-read (h .dlc) (take (carried h) b) e))
+    ∙ ap (λ (x : List ℕ). h .rtr ∷ x) (between-hex 0 (h .dlc) t (omega arith)
+    ∙ bytes-read (h .dlc) (take (carried h) b) e))
 
 -- ---- the bytes used
 
@@ -115,10 +124,12 @@ clear-field xs f = clear-more 32 xs refl f
 clear-fields : (bs : List ℕ) → Clear (fields 32 bs)
 unfolding fields
 clear-fields [] = λ t. omega arith
-clear-fields (b ∷ bs) = clear-both (32 ∷ hex 2 b) (fields 32 bs) (clear-field (hex 2 b) (clear-hex 2 b)) (clear-fields bs)
+clear-fields (b ∷ bs) =
+    clear-both (32 ∷ hex 2 b) (fields 32 bs) (clear-field (hex 2 b) (clear-hex 2 b)) (clear-fields bs)
 
 -- a text with LF as its only end
-ended : (xs : List ℕ) → Clear xs → (beforeEnd (xs ++ (10 ∷ [])) < length (xs ++ (10 ∷ []))) × (usedOf (xs ++ (10 ∷ [])) ≡ length (xs ++ (10 ∷ [])))
+ended : (xs : List ℕ) → Clear xs
+    → (beforeEnd (xs ++ (10 ∷ [])) < length (xs ++ (10 ∷ []))) × (usedOf (xs ++ (10 ∷ [])) ≡ length (xs ++ (10 ∷ [])))
 unfolding beforeEnd endRun byteKind
 ended xs f =
     let e : beforeEnd (xs ++ (10 ∷ [])) ≡ length xs = f (10 ∷ []) ∙ omega arith in
@@ -126,7 +137,8 @@ ended xs f =
     (omega arith, rw (e, drop-at xs (10 ∷ []) (length xs) refl) (sym l))
 
 line-ended : (id : ℕ) (h : Header) (b : List ℕ)
-    → (beforeEnd (messageText id h b) < length (messageText id h b)) × (usedOf (messageText id h b) ≡ length (messageText id h b))
+    → (beforeEnd (messageText id h b) < length (messageText id h b))
+    × (usedOf (messageText id h b) ≡ length (messageText id h b))
 unfolding messageText
 line-ended id h b =
     let r : List ℕ = 32 ∷ hex 1 (h .rtr) in
@@ -149,7 +161,8 @@ all-bytes (suc n) [] g = refl
 all-bytes (suc n) (x ∷ b) g = rw (lt-ltb x 256 (g 0)) (all-bytes n b (λ i. g (suc i)))
 
 -- bytes that are zero from c on are their first c, and zeros
-data-back : (c : ℕ) (b : List ℕ) → c ≤ 8 → length b ≡ 8 → allZero (drop c b) ≡ true → take c (take c b) ++ replicate (8 - c) 0 ≡ b
+data-back : (c : ℕ) (b : List ℕ) → c ≤ 8 → length b ≡ 8 → allZero (drop c b) ≡ true
+    → take c (take c b) ++ replicate (8 - c) 0 ≡ b
 data-back c b h l z =
     let t : length (take c b) ≡ c = length-take-le c b (omega arith) in
     let n : length (drop c b) ≡ 8 - c = omega (arith, length-drop c b) in
@@ -162,15 +175,20 @@ module _ (align : ℕ) (m : Message) (a : align ≤ 3) (g : HeaderFacts (m .head
   -- the identifier shown has at most 32 bits, and is read back
   shown-small : shownId align h < 2 ^ 32
   shown-small =
-      let fits : idBits (h .format) + idLow (h .format) align ≤ 32 = omega (arith, id-in-word (h .format) align (idLow (h .format) align) (idBits (h .format)) refl refl) in
+      let fits : idBits (h .format) + idLow (h .format) align ≤ 32 =
+      omega (arith, id-in-word (h .format) align (idLow (h .format) align) (idBits (h .format)) refl refl) in
       lt-of-lt-of-le (shl-lt (idBits (h .format)) (idLow (h .format) align) (g .id)) (pow-mono fits)
 
   shown-back : rawOf align (h .format) (shownId align h) ≡ Good (h .id)
-  shown-back = read-back align (h .format) (h .id) (shownId align h) (good-aligned align (h .format) (h .id) a (g .format) (g .id))
+  shown-back =
+      read-back align (h .format) (h .id) (shownId align h)
+      (good-aligned align (h .format) (h .id) a (g .format) (g .id))
 
   -- the fields of a good message say that message
-  fields-say : (bs : List ℕ) (used : ℕ) → length bs ≡ carried h → allBytes bs ≡ true → take (carried h) bs ++ replicate (8 - carried h) 0 ≡ m .bytes
-      → judged align (h .format) (length (shownId align h ∷ h .rtr ∷ h .dlc ∷ bs)) (shownId align h ∷ h .rtr ∷ h .dlc ∷ bs) used
+  fields-say : (bs : List ℕ) (used : ℕ) → length bs ≡ carried h → allBytes bs ≡ true
+      → take (carried h) bs ++ replicate (8 - carried h) 0 ≡ m .bytes
+      → judged align (h .format) (length (shownId align h ∷ h .rtr ∷ h .dlc ∷ bs))
+      (shownId align h ∷ h .rtr ∷ h .dlc ∷ bs) used
       ≡ record { answer = Taken h used; bytes = m .bytes }
   unfolding judged judgedData
   fields-say bs used l s d =
@@ -188,7 +206,8 @@ module _ (align : ℕ) (m : Message) (a : align ≤ 3) (g : HeaderFacts (m .head
 
 -- a good message's line is read back, and all its bytes are used
 pub round-trip : (align : ℕ) (m : Message) → align ≤ 3 → goodMessage m ≡ true → length (m .bytes) ≡ 8 → Bytes (m .bytes)
-    → readMessage align (m .header .format) (messageLine align m) ≡ record { answer = Taken (m .header) (length (messageLine align m)); bytes = m .bytes }
+    → readMessage align (m .header .format) (messageLine align m)
+    ≡ record { answer = Taken (m .header) (length (messageLine align m)); bytes = m .bytes }
 unfolding goodMessage messageLine readMessage
 round-trip align m a e l b =
     let h = m .header in
@@ -199,7 +218,11 @@ round-trip align m a e l b =
     let ends = line-ended (shownId align h) h (m .bytes) in
     let s = all-bytes (carried h) (m .bytes) b in
     let d = data-back (carried h) (m .bytes) (carried-le h) l (and-right (eqb (headerRefusal h) 0) zero-rest e) in
-    rw (lt-ltb (beforeEnd t) (length t) (ends .0), ends .1, line-numbers (shownId align h) h (m .bytes) (shown-small align m a g) (g .rtr) (g .dlc) s)
+    rw (
+      lt-ltb (beforeEnd t) (length t) (ends .0),
+      ends .1,
+      line-numbers (shownId align h) h (m .bytes) (shown-small align m a g) (g .rtr) (g .dlc) s,
+    )
     (fields-say align m a g bs (length t) (length-take-le (carried h) (m .bytes) (omega (arith, carried-le h))) s d)
 
 -- a line's last byte is its only end, so all its bytes are used

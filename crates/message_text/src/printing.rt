@@ -38,7 +38,8 @@ fn put_message(out: &mut [u8], id: u32, h: Header, b: [u8; 8]) -> usize
 
 // Prints a message given alone: its identifier is raw.
 pub fn print_message(align: u32, m: Message, out: &mut [u8]) -> Printed
-    ensures { λ r. ⌜ Prints (messageRefusal align m (length (now (out .entry)))) (messageLine align m) (now (out .entry)) r (now (out .exit)) ⌝ }
+    ensures { λ r. ⌜ Prints (messageRefusal align m (length (now (out .entry)))) (messageLine align m)
+        (now (out .entry)) r (now (out .exit)) ⌝ }
 {
     if out.len() < ROOM {
         return refuse(3);
@@ -64,7 +65,8 @@ pub fn print_message(align: u32, m: Message, out: &mut [u8]) -> Printed
 
 // Prints a message record.
 pub fn print_record(align: u32, s: &[u8], out: &mut [u8]) -> Printed
-    ensures { λ r. ⌜ Prints (messageRecordRefusal align (now (s .entry)) (length (now (out .entry)))) (messageLine align (messageIn (now (s .entry)))) (now (out .entry)) r (now (out .exit)) ⌝ }
+    ensures { λ r. ⌜ Prints (messageRecordRefusal align (now (s .entry)) (length (now (out .entry))))
+        (messageLine align (messageIn (now (s .entry)))) (now (out .entry)) r (now (out .exit)) ⌝ }
 {
     if out.len() < ROOM {
         return refuse(3);

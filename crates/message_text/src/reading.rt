@@ -11,7 +11,8 @@ ghost use mathlib.Core.List.{_++_};
 ghost use Prim.Native.Nat.{_+_, _-_, _≤_};
 ghost use lib.ListN.{drop, take, replicate};
 ghost use Rattle.ids.specs.Ids.{rawOf};
-ghost use Rattle.message_text.specs.Reading.{allBytes, refused, judgedData, judged, readMessage, numberOf, usedBy};
+ghost use Rattle.message_text.specs.Reading.{allBytes, refused, judgedData, judged};
+ghost use Rattle.message_text.specs.Reading.{readMessage, numberOf, usedBy};
 
 // The raw identifier of an aligned one of any size.
 fn raw_of(align: u32, format: u32, v: u64) -> Id

@@ -1,4 +1,5 @@
--- Exactly which events are recorded; every gap has a certain count; the number of a raise tells what became of its event.
+-- Exactly which events are recorded; every gap has a certain count; the number of a raise tells what became of its
+-- event.
 use Prim.Native.Nat.{ℕ, _+_, min}
 use mathlib.Core.Path.{_≡_, refl, sym}
 use mathlib.Core.Bool.{Bool, true, false, not, _&&_}
@@ -26,8 +27,10 @@ use Rattle.model.proofs.Numbers.{frame-number}
 -- ---- which events are recorded
 
 module _ (s : Shared) (i : ℕ) (e : Event) (b : Inbox) where
-  -- THEOREM. An event past filter and mask is recorded, behind all others and with the pending count, where a place is free, and else lost
-  pub recorded-exactly : filtered (s .mode) (s .align) (b .filter) e ≡ false → maskLets (b .mask) (codeOf (e .kind)) ≡ true
+  -- THEOREM. An event past filter and mask is recorded, behind all others and with the pending count,
+  -- where a place is free, and else lost
+  pub recorded-exactly : filtered (s .mode) (s .align) (b .filter) e ≡ false
+      → maskLets (b .mask) (codeOf (e .kind)) ≡ true
       → recorded (arrival s i e b .inbox)
       ≡ recorded b ++ pick (ltb (length (b .queue)) (b .places)) (keeps i (stamped e (b .pending)) ∷ []) []
   unfolding arrival
@@ -44,7 +47,8 @@ module _ (s : Shared) (i : ℕ) (e : Event) (b : Inbox) where
   turned-away h = by (filtered (s .mode) (s .align) (b .filter) e) (maskLets (b .mask) (codeOf (e .kind))) h
     where
       by : (f m : Bool) → (not f && m) ≡ false
-          → pick f (meets 101 b) (pick m (pick (ltb (length (b .queue)) (b .places)) (meets 100 (recording i e b)) (meets 103 (losing i e b))) (meets 102 b)) .inbox
+          → pick f (meets 101 b) (pick m (pick (ltb (length (b .queue)) (b .places)) (meets 100 (recording i e b))
+          (meets 103 (losing i e b))) (meets 102 b)) .inbox
           ≡ b
       by true m h = refl
       by false false h = refl

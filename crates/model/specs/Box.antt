@@ -1,5 +1,7 @@
--- The whole recorder as its users think of it: shared settings, a receive channel, a send channel; what each call answers and leaves.
--- This is what the promises are about. That the code over its tables answers exactly this, call after call, is a theorem.
+-- The whole recorder as its users think of it: shared settings, a receive channel, a send channel;
+-- what each call answers and leaves.
+-- This is what the promises are about. That the code over its tables answers exactly this, call after call,
+-- is a theorem.
 use Prim.Native.Nat.{ℕ, _+_}
 use mathlib.Core.List.{List, [], _∷_}
 use mathlib.Core.Option.{Option, none, some}

@@ -1,4 +1,5 @@
--- The numbers that the paper lists for each call, its refusals in their order, then its answers, and what a refusal leaves (01, "Refusal numbers").
+-- The numbers that the paper lists for each call, its refusals in their order, then its answers,
+-- and what a refusal leaves (01, "Refusal numbers").
 use Prim.Native.Nat.{ℕ}
 use mathlib.Core.Path.{_≡_}
 use mathlib.Core.Bool.{true}
@@ -7,9 +8,11 @@ use lib.Dec.{eqb}
 use Rattle.common.specs.Choice.{pick}
 use Rattle.common.specs.Numbers.{allZero, among}
 use Rattle.message_text.specs.Numbers.{usedOf}
-use Rattle.model.specs.Inbox.{ReceiveCall, readRecord, readText, look, setFilter, setEventMask, identifiersThrough}
+use Rattle.model.specs.Inbox.{ReceiveCall, readRecord, readText, look}
+use Rattle.model.specs.Inbox.{setFilter, setEventMask, identifiersThrough}
 use Rattle.model.specs.Outbox.{SendCall, send, sendText, take, done, abort}
-use Rattle.model.specs.Box.{DeviceCall, raise, setMode, setFormat, PrintCall, printMessageRecord, printEventRecord, printMessage}
+use Rattle.model.specs.Box.{DeviceCall, raise, setMode, setFormat}
+use Rattle.model.specs.Box.{PrintCall, printMessageRecord, printEventRecord, printMessage}
 use Rattle.model.specs.Box.{Box, Step, Call, onDevice, onReceive, onSend, onAlign}
 
 abbrev pub listedDevice : DeviceCall → List ℕ

@@ -1,4 +1,5 @@
--- A send channel as its users think of it: at most so many messages in a list, and a register of none or one. No table, no ring.
+-- A send channel as its users think of it: at most so many messages in a list, and a register of none or one.
+-- No table, no ring.
 use Prim.Native.Nat.{ℕ}
 use mathlib.Core.List.{List, [], _∷_, _++_, map}
 use mathlib.Core.Bool.{Bool}

@@ -29,11 +29,13 @@ lostSum (k ∷ ks) = k .event .lost + lostSum ks
 
 -- every event past filter and mask is read, queued or in a lost count
 abbrev pub AddsUp : Inbox → Type 0
-AddsUp b = length (b .read) + length (b .queue) + (lostSum (b .read) + lostSum (b .queue) + b .pending) ≡ length (b .arrived)
+AddsUp b =
+    length (b .read) + length (b .queue) + (lostSum (b .read) + lostSum (b .queue) + b .pending) ≡ length (b .arrived)
 
 -- ---- every gap has a certain count
 
--- what arrived, one by one, is recorded with the number lost since the last that was, or is lost; n were lost since the last
+-- what arrived, one by one, is recorded with the number lost since the last that was, or is lost;
+-- n were lost since the last
 pub data Gaps : (arrived recorded : List Kept) (n : ℕ) → Type 0 where
   nothing : Gaps [] [] 0
   kept : {xs rs : List Kept} {n : ℕ} (i : ℕ) (e : Event) → Gaps xs rs n
@@ -105,7 +107,8 @@ lastTaken last [] = last
 lastTaken last (took m ∷ gs) = lastTaken (some m) gs
 lastTaken last (purged m ∷ gs) = lastTaken last gs
 
--- every message sent was taken or purged, in the order sent, or waits; the register is empty or holds the last message taken
+-- every message sent was taken or purged, in the order sent, or waits; the register is empty or holds the last
+-- message taken
 pub record Mailed (o : Outbox) : Type 0 where
   pub in-order : o .sent ≡ map messageOf (o .gone) ++ o .buffer
   pub last : (m : Message) → o .register ≡ some m → lastTaken none (o .gone) ≡ some m

@@ -54,7 +54,8 @@ pub fn raised_if(test: bool, code: u32, tick: u32, m: Message) -> Raised
 
 // Puts a message in behind the newest, beside a value: only that slot is written.
 pub fn put(s: Send, m: Message, value: usize, table: &mut [u8]) -> Sent
-    requires { ⌜ (goodSend s ≡ true) × (sendFits s (length (now table)) ≡ true) × (s .ring .count < s .ring .capacity) ⌝ }
+    requires { ⌜ (goodSend s ≡ true) × (sendFits s (length (now table)) ≡ true)
+        × (s .ring .count < s .ring .capacity) ⌝ }
     ensures { λ r. ⌜ WriteMet (puts s m value (now (table .entry))) r (now (table .exit)) ⌝ }
 {
     let ring = s.ring;

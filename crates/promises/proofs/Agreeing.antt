@@ -1,4 +1,5 @@
--- What an outcome and a step of the model have in common, and the ways in which both go: a choice, an event met, an event raised beside an answer.
+-- What an outcome and a step of the model have in common, and the ways in which both go: a choice, an event met,
+-- an event raised beside an answer.
 use Prim.Native.Nat.{ℕ}
 use mathlib.Core.Path.{_≡_, refl, sym, subst, _∙_}
 use mathlib.Core.Bool.{Bool, true, false, not, _||_}
@@ -66,7 +67,8 @@ pub inbox-possible : (d : Device) (q t : List ℕ) (b : Box) → Stands d q t b 
 unfolding possible
 inbox-possible d q t b h = rw (h .possible, receive-possible (d .receive) q (b .inbox) (h .inbox))
 
-pub inbox-ready : (d : Device) (q t : List ℕ) (b : Box) → Stands d q t b → ready (d .shared) (d .receive) (length q) ≡ true
+pub inbox-ready : (d : Device) (q t : List ℕ) (b : Box) → Stands d q t b
+    → ready (d .shared) (d .receive) (length q) ≡ true
 unfolding ready
 inbox-ready d q t b h = rw (inbox-possible d q t b h, h .inbox .events .long)
 
@@ -103,9 +105,12 @@ module _ (r : Receive) (q : List ℕ) (b : Inbox) (h : Receives r q b) where
           pending = refl;
           word = omega arith;
           events =
-              holds-more keptBytes eventSize queueLimit (r .ring) q (b .queue) (keeps i (stamped e (b .pending))) (h .events) z
+              holds-more keptBytes eventSize queueLimit (r .ring) q (b .queue) (keeps i (stamped e (b .pending)))
+              (h .events) z
               (event-bytes-length (stamped e (b .pending)) (f .eight));
-          sound = all-snoc (λ (k : Kept). SoundEvent (k .event)) (b .queue) (keeps i (stamped e (b .pending))) (h .sound) s;
+          sound =
+              all-snoc (λ (k : Kept). SoundEvent (k .event)) (b .queue) (keeps i (stamped e (b .pending)))
+              (h .sound) s;
         },
       )
 
@@ -129,17 +134,20 @@ module _ (r : Receive) (q : List ℕ) (b : Inbox) (h : Receives r q b) where
         },
       )
 
-  -- an event that is raised on the channel meets what it meets in the model, and the channel after it stands for the inbox after it
+  -- an event that is raised on the channel meets what it meets in the model, and the channel after it stands for the
+  -- inbox after it
   pub arrival-is : (s : Shared) (i : ℕ) (e : Event) → SoundEvent e → SameMet (Queue.meets s r e q) (arrival s i e b)
   unfolding Queue.meets unfiltered arrival
   arrival-is s i e f =
-      ways (filtered (s .mode) (s .align) (r .filter) e) (filtered (s .mode) (s .align) (b .filter) e) (rw (h .filter)) (λ z. (refl, h))
+      ways (filtered (s .mode) (s .align) (r .filter) e) (filtered (s .mode) (s .align) (b .filter) e)
+      (rw (h .filter)) (λ z. (refl, h))
       (λ z. ways (maskLets (r .events) (codeOf (e .kind))) (maskLets (b .mask) (codeOf (e .kind))) (rw (h .mask))
       (λ y. pick-queued (ltb (r .ring .count) (r .ring .capacity)) refl)
       (λ y. (refl, h)))
     where
       pick-queued : (c : Bool) → ltb (r .ring .count) (r .ring .capacity) ≡ c
-          → SameMet (queued r e q) (pick (ltb (length (b .queue)) (b .places)) (meets 100 (recording i e b)) (meets 103 (losing i e b)))
+          → SameMet (queued r e q) (pick (ltb (length (b .queue)) (b .places)) (meets 100 (recording i e b))
+          (meets 103 (losing i e b)))
       pick-queued true z = rw (sym room-is ∙ z) (recorded-is i e f z)
       pick-queued false z = rw (sym room-is ∙ z) (lost-is i e z)
 
@@ -154,22 +162,26 @@ pub agrees-as : {o p : Outcome} {out : List ℕ} {s : Step} → o ≡ p → Agre
 agrees-as {o} {p} {out} {s} e a = subst (λ (x : Outcome). Agrees x out s) (sym e) a
 
 -- a choice by one test
-pub agree-ways : (c : Bool) (out : List ℕ) {o o′ : Outcome} {s s′ : Step} → (c ≡ true → Agrees o out s) → (c ≡ false → Agrees o′ out s′)
+pub agree-ways : (c : Bool) (out : List ℕ) {o o′ : Outcome} {s s′ : Step} → (c ≡ true → Agrees o out s)
+    → (c ≡ false → Agrees o′ out s′)
     → Agrees (pick c o o′) out (pick c s s′)
 agree-ways true out f g = f refl
 agree-ways false out f g = g refl
 
 -- a choice whose test is known
-pub goes-first : (c : Bool) (out : List ℕ) (o o′ : Outcome) {s : Step} → c ≡ true → Agrees o out s → Agrees (pick c o o′) out s
+pub goes-first : (c : Bool) (out : List ℕ) (o o′ : Outcome) {s : Step} → c ≡ true → Agrees o out s
+    → Agrees (pick c o o′) out s
 goes-first true out o o′ e a = a
 goes-first false out o o′ e a = absurd (apart (sym e))
 
-pub goes-second : (c : Bool) (out : List ℕ) (o o′ : Outcome) {s : Step} → c ≡ false → Agrees o′ out s → Agrees (pick c o o′) out s
+pub goes-second : (c : Bool) (out : List ℕ) (o o′ : Outcome) {s : Step} → c ≡ false → Agrees o′ out s
+    → Agrees (pick c o o′) out s
 goes-second true out o o′ e a = absurd (apart e)
 goes-second false out o o′ e a = a
 
 -- an event raised beside an answer arrives in the inbox, and the answer stays
-pub notes : (e : Event) (i : ℕ) (o : Outcome) (out : List ℕ) (a : Said) (b : Box) → SoundEvent e → Agrees o out (steps a b)
+pub notes : (e : Event) (i : ℕ) (o : Outcome) (out : List ℕ) (a : Said) (b : Box) → SoundEvent e
+    → Agrees o out (steps a b)
     → Agrees (noted e o) out (steps a (box (b .shared) (arrival (b .shared) i e (b .inbox) .inbox) (b .outbox)))
 unfolding noted
 notes e i o out a b f h =
@@ -181,7 +193,8 @@ notes e i o out a b f h =
     )
 
 -- an event that is raised only where a test holds
-pub notes-if : (c c′ : Bool) → c ≡ c′ → (e : Event) (i : ℕ) (o : Outcome) (out : List ℕ) (a : Said) (b : Box) → SoundEvent e
+pub notes-if : (c c′ : Bool) → c ≡ c′ → (e : Event) (i : ℕ) (o : Outcome) (out : List ℕ) (a : Said) (b : Box)
+    → SoundEvent e
     → Agrees o out (steps a b)
     → Agrees (pick c (noted e o) o) out
     (steps a (box (b .shared) (Model.noted (b .shared) i (pick c′ (some e) none) (b .inbox)) (b .outbox)))

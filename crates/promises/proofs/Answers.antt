@@ -22,10 +22,12 @@ use Rattle.recorder.specs.Outcomes.{Lent, lends, Outcome}
 use Rattle.recorder.specs.Receiving.{opened}
 use Rattle.recorder.specs.declared.Device.{Device}
 use Rattle.model.specs.Said.{Said, says, saysZeros, hands, prints}
-use Rattle.model.specs.Inbox.{Kept, Inbox, Met, arrival, ReceiveCall, readRecord, readText, look, setFilter, setEventMask, identifiersThrough}
+use Rattle.model.specs.Inbox.{Kept, Inbox, Met, arrival, ReceiveCall, readRecord}
+use Rattle.model.specs.Inbox.{readText, look, setFilter, setEventMask, identifiersThrough}
 use Rattle.model.specs.Inbox.{withFilter, withMask, Received, received, takesOldest, receives}
 use Rattle.model.specs.Outbox.{Outbox, posts}
-use Rattle.model.specs.Box.{Box, box, Step, DeviceCall, raise, setMode, setFormat, noted, changes, does, Call, onDevice, onReceive, onSend, onAlign, step, fresh}
+use Rattle.model.specs.Box.{Box, box, Step, DeviceCall, raise, setMode, setFormat, noted, changes}
+use Rattle.model.specs.Box.{does, Call, onDevice, onReceive, onSend, onAlign, step, fresh}
 use Rattle.model.specs.Box as Model
 use Rattle.promises.specs.Typed.{Typed, Made, asked, TypedSettings}
 use Rattle.promises.specs.Calls.{outcome}
@@ -40,17 +42,20 @@ use Rattle.promises.proofs.Opening.{opens}
 
 -- ---- one call
 
--- THEOREM. A call on a device that stands for a box says what the model says, and leaves a device that stands for the box that the model leaves
+-- THEOREM. A call on a device that stands for a box says what the model says, and leaves a device that stands for
+-- the box that the model leaves
 pub refines : (x : Call) (i : ℕ) (d : Device) (q t out : List ℕ) (b : Box) → Typed x → Stands d q t b
     → Agrees (outcome x d (lends q t out)) out (step i (length out) x b)
 refines x i d q t out b ty h =
-    subst (λ (s : Shared). Agrees (outcome x d (lends q t out)) out (step i (length out) x (box s (b .inbox) (b .outbox)))) (h .shared)
+    subst (λ (s : Shared). Agrees (outcome x d (lends q t out)) out
+    (step i (length out) x (box s (b .inbox) (b .outbox)))) (h .shared)
     (by x ty)
   where
     same : Stands d q t (box (d .shared) (b .inbox) (b .outbox))
     same = record { possible = h .possible; shared = refl; inbox = h .inbox; outbox = h .outbox }
 
-    by : (x : Call) → Typed x → Agrees (outcome x d (lends q t out)) out (step i (length out) x (box (d .shared) (b .inbox) (b .outbox)))
+    by : (x : Call) → Typed x
+        → Agrees (outcome x d (lends q t out)) out (step i (length out) x (box (d .shared) (b .inbox) (b .outbox)))
     by (onDevice x) ty = device-agrees d q t out i (b .inbox) (b .outbox) same x ty
     by (onReceive x) ty = receive-agrees d q t out i (b .inbox) (b .outbox) same x ty
     by (onSend x) ty = send-agrees d q t out i (b .inbox) (b .outbox) same x ty
@@ -89,7 +94,9 @@ module _ (r : Run) (o : Outcome) (out : List ℕ) (b : Inbox)
     (h : Holds keptBytes eventSize queueLimit (r .device .receive .ring) (r .queue) (b .queue)) where
   -- what was read after a call is what was read before it and, where it answers 0, these bytes
   abbrev Grows : List (List ℕ) → Received → Type 0
-  Grows got x = Says o out (x .said) → map keptBytes (x .inbox .read) ≡ map keptBytes (b .read) ++ pick (eqb (o .number) 0) got []
+  Grows got x =
+      Says o out (x .said)
+      → map keptBytes (x .inbox .read) ≡ map keptBytes (b .read) ++ pick (eqb (o .number) 0) got []
 
   -- a call that reads nothing
   still : (a : Said) (c : Inbox) → c .read ≡ b .read → Grows [] (received a c)
@@ -127,7 +134,8 @@ module _ (r : Run) (o : Outcome) (out : List ℕ) (b : Inbox)
       (b .queue) refl)
   receive-read (look p) s = still _ b refl
   receive-read (setFilter code mask) s = still _ (withFilter code mask b) refl
-  receive-read (setEventMask mask) s = pick-is (Grows []) (isMask mask) (λ z. still _ (withMask mask b) refl) (λ z. still _ b refl)
+  receive-read (setEventMask mask) s =
+      pick-is (Grows []) (isMask mask) (λ z. still _ (withMask mask b) refl) (λ z. still _ b refl)
   receive-read (identifiersThrough format) s = still _ b refl
 
 -- ---- one call of a run
@@ -161,22 +169,26 @@ module _ (x : Made) (r : Run) (b : Box) (h : RunStands r b) where
 
 -- ---- sequences of calls
 
--- THEOREM. In a run that stands for a box every call says what the model says, and at the end the run stands for the model's box
+-- THEOREM. In a run that stands for a box every call says what the model says, and at the end the run stands for the
+-- model's box
 pub answers-from : (xs : List Made) (i : ℕ) (r : Run) (b : Box) → RunStands r b
     → Answered xs r (Model.answers i (map asked xs) b) × RunStands (run xs r) (Model.run i (map asked xs) b)
 unfolding run Model.answers Model.run
 answers-from [] i r b h = (tt, h)
 answers-from (x ∷ xs) i r b h =
-    let rest = answers-from xs (i + 1) (next x r) (step i (length (x .out)) (x .call) b .after) (next-stands x r b h i) in
+    let rest = answers-from xs (i + 1) (next x r) (step i (length (x .out)) (x .call) b .after)
+    (next-stands x r b h i) in
     ((says-model x r b h i, rest .0), rest .1)
 
--- THEOREM. From every opening that answers 0, for every list of calls: every answer and every output buffer is the model's,
--- and the device with its tables stands for the model's box
+-- THEOREM. From every opening that answers 0, for every list of calls: every answer and every output buffer is the
+-- model's, and the device with its tables stands for the model's box
 pub answers : (s : Settings) (l : Lent) (xs : List Made) → TypedSettings s → opened s l .number ≡ 0
-    → Answered xs (started s l) (Model.answers 0 (map asked xs) (fresh s)) × RunStands (run xs (started s l)) (Model.run 0 (map asked xs) (fresh s))
+    → Answered xs (started s l) (Model.answers 0 (map asked xs) (fresh s))
+    × RunStands (run xs (started s l)) (Model.run 0 (map asked xs) (fresh s))
 answers s l xs ty e = answers-from xs 0 (started s l) (fresh s) (opens s l ty e)
 
--- THEOREM. After any calls from such an opening the event table holds the bytes of the events that the model has queued, and no others, oldest first
+-- THEOREM. After any calls from such an opening the event table holds the bytes of the events that the model has
+-- queued, and no others, oldest first
 pub queued-bytes : (s : Settings) (l : Lent) (xs : List Made) → TypedSettings s → opened s l .number ≡ 0
     → queuedEvents (run xs (started s l)) ≡ map keptBytes (Model.run 0 (map asked xs) (fresh s) .inbox .queue)
 queued-bytes s l xs ty e = answers s l xs ty e .1 .stands .inbox .events .slots

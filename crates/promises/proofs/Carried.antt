@@ -43,11 +43,12 @@ module _ (r : Run) (b : Box) (h : RunStands r b) where
       ∙ ap (λ (l : List (List ℕ)). map keptBytes (b .inbox .read) ++ l) (h .stands .inbox .events .slots)
       ∙ sym (map-append keptBytes (b .inbox .read) (b .inbox .queue))
 
--- THEOREM. After any calls from an opening that answers 0: the bytes that the reads handed out, then those of the queued slots,
--- are the bytes of the events that the model has recorded, in the same order
+-- THEOREM. After any calls from an opening that answers 0: the bytes that the reads handed out,
+-- then those of the queued slots, are the bytes of the events that the model has recorded, in the same order
 pub recorded-bytes : (s : Settings) (l : Lent) (xs : List Made) → TypedSettings s → opened s l .number ≡ 0
     → recordedBytes (run xs (started s l)) ≡ map keptBytes (recorded (Model.run 0 (map asked xs) (fresh s) .inbox))
-recorded-bytes s l xs ty e = stands-recorded (run xs (started s l)) (Model.run 0 (map asked xs) (fresh s)) (answers s l xs ty e .1)
+recorded-bytes s l xs ty e =
+    stands-recorded (run xs (started s l)) (Model.run 0 (map asked xs) (fresh s)) (answers s l xs ty e .1)
 
 -- ---- the sum
 
@@ -81,18 +82,21 @@ lost-bytes : (ks : List Kept) → All Counted ks → lostBytes (map keptBytes ks
 lost-bytes [] h = refl
 lost-bytes (k ∷ ks) h = let rest = lost-bytes ks (h .1) in let one = lost-back (k .event) (h .0) in omega arith
 
--- THEOREM, demand 2. Up to 4,294,967,295 events past filter and mask: events read + events queued + the lost counts in the bytes of both
+-- THEOREM, demand 2. Up to 4,294,967,295 events past filter and mask: events read + events queued + the lost counts
+-- in the bytes of both
 -- + the pending count = those events
 pub sum-of-bytes : (s : Settings) (l : Lent) (xs : List Made) → TypedSettings s → opened s l .number ≡ 0
     → let r : Run = run xs (started s l) in
     let b : Inbox = Model.run 0 (map asked xs) (fresh s) .inbox in
     length (b .arrived) ≤ 4294967295
-    → length (r .read) + length (queuedEvents r) + (lostBytes (r .read) + lostBytes (queuedEvents r) + r .device .receive .pending)
+    → length (r .read) + length (queuedEvents r)
+    + (lostBytes (r .read) + lostBytes (queuedEvents r) + r .device .receive .pending)
     ≡ length (b .arrived)
 sum-of-bytes s l xs ty e bound =
     let b = Model.run 0 (map asked xs) (fresh s) .inbox in
     let h = answers s l xs ty e .1 in
-    let c = run-keeps AllCounted counted-lasts 0 (map asked xs) (fresh s) (record { pending = omega arith; read = tt; queue = tt }) in
+    let c = run-keeps AllCounted counted-lasts 0 (map asked xs) (fresh s)
+    (record { pending = omega arith; read = tt; queue = tt }) in
     let total = sum s (map asked xs) bound in
     let reads = ap length (h .read) ∙ length-map (b .read) keptBytes in
     let queues = ap length (h .stands .inbox .events .slots) ∙ length-map (b .queue) keptBytes in
@@ -120,10 +124,12 @@ entries-apart (k ∷ ks) =
 
 within-entries : (a b : Inbox) → Within a b → Sublist (map entryOf (recorded a)) (map entryOf (recorded b))
 within-entries a b h =
-    subst₂ (λ (k l : List Entry). Sublist k l) (entries-apart (recorded a)) (entries-apart (recorded b)) (sublist-map entryOf h)
+    subst₂ (λ (k l : List Entry). Sublist k l) (entries-apart (recorded a)) (entries-apart (recorded b))
+    (sublist-map entryOf h)
 
--- THEOREM, demand 3. Two boxes opened with the same settings but for c and d event places, c ≤ d, each over its own tables of any bytes,
--- given the same calls: what the smaller has recorded, place by place and byte by byte apart from lost counts, the larger has, in the same order
+-- THEOREM, demand 3. Two boxes opened with the same settings but for c and d event places, c ≤ d,
+-- each over its own tables of any bytes, given the same calls: what the smaller has recorded,
+-- place by place and byte by byte apart from lost counts, the larger has, in the same order
 pub larger-queue : (s : Settings) (c d : ℕ) (l m : Lent) (xs : List Made) → c ≤ d → TypedSettings s
     → opened (withPlaces s c) l .number ≡ 0 → opened (withPlaces s d) m .number ≡ 0
     → let small : Inbox = Model.run 0 (map asked xs) (fresh (withPlaces s c)) .inbox in
@@ -153,7 +159,8 @@ box-of-1500 s l m xs ty e g = larger-queue s 200 1500 l m xs (omega arith) ty e 
 
 -- ---- the numbers that can still be answered
 
--- THEOREM, demand 2. In every run from an opening every call answers a number of `usual`: never 2, and no read and no take 14
+-- THEOREM, demand 2. In every run from an opening every call answers a number of `usual`: never 2,
+-- and no read and no take 14
 pub always-usual : (s : Settings) (l : Lent) (xs : List Made) (x : Made) → TypedSettings s → opened s l .number ≡ 0
     → among (answered x (run xs (started s l)) .number) (usual (x .call)) ≡ true
 always-usual s l xs x ty e =
@@ -161,11 +168,13 @@ always-usual s l xs x ty e =
     let b = Model.run 0 (map asked xs) (fresh s) in
     let h = answers s l xs ty e .1 in
     let good : goodShared (b .shared) ≡ true = sym (ap goodShared (h .stands .shared)) ∙ h .stands .possible in
-    ap (λ (n : ℕ). among n (usual (x .call))) (says-model x r b h 0 .number) ∙ says-usual 0 (length (x .out)) (x .call) b good
+    ap (λ (n : ℕ). among n (usual (x .call))) (says-model x r b h 0 .number)
+    ∙ says-usual 0 (length (x .out)) (x .call) b good
 
 -- ---- messages
 
--- THEOREM, demand 2. The messages sent are, in that order, those taken or purged and then the message slots that still wait
+-- THEOREM, demand 2. The messages sent are, in that order, those taken or purged and then the message slots that
+-- still wait
 pub mailed-bytes : (s : Settings) (l : Lent) (xs : List Made) → TypedSettings s → opened s l .number ≡ 0
     → let o : Outbox = Model.run 0 (map asked xs) (fresh s) .outbox in
     map messageBytes (o .sent) ≡ map messageBytes (map messageOf (o .gone)) ++ waiting (run xs (started s l))

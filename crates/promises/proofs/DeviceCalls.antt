@@ -33,7 +33,8 @@ use Rattle.promises.specs.Typed.{Word, TypedDevice}
 use Rattle.promises.specs.Calls.{outcome}
 use Rattle.promises.specs.Stands.{Stands}
 use Rattle.promises.proofs.Sound.{event-sound}
-use Rattle.promises.proofs.Agreeing.{arrival-is, device-possible, send-possible, inbox-ready, Agrees, agree-ways, notes, told}
+use Rattle.promises.proofs.Agreeing.{arrival-is, device-possible, send-possible, inbox-ready}
+use Rattle.promises.proofs.Agreeing.{Agrees, agree-ways, notes, told}
 
 module _ (d : Device) (q t out : List ℕ) (i : ℕ) (b : Inbox) (o : Outbox) (h : Stands d q t (box (d .shared) b o)) where
   abbrev l : Lent
@@ -70,7 +71,8 @@ module _ (d : Device) (q t out : List ℕ) (i : ℕ) (b : Inbox) (o : Outbox) (h
       (λ z. rw z (told (says (frameRefusal code m)) d q t out, h)))
 
   -- a change of the shared settings
-  change-is : (s : Shared) (tick : ℕ) → Word tick → Agrees (changed s tick d l) out (changes s tick i (box (d .shared) b o))
+  change-is : (s : Shared) (tick : ℕ) → Word tick
+      → Agrees (changed s tick d l) out (changes s tick i (box (d .shared) b o))
   unfolding changed
   change-is s tick ty =
       rw (possible, long)
@@ -91,7 +93,8 @@ module _ (d : Device) (q t out : List ℕ) (i : ℕ) (b : Inbox) (o : Outbox) (h
       change-is (record { mode = d .shared .mode; format = format; align = d .shared .align }) tick (ty .1)
 
   -- a line, or its refusal
-  print-is : (n : ℕ) (line : List ℕ) → Agrees (linePrinted n line d l) out (steps (printed n line) (box (d .shared) b o))
+  print-is : (n : ℕ) (line : List ℕ)
+      → Agrees (linePrinted n line d l) out (steps (printed n line) (box (d .shared) b o))
   unfolding linePrinted
   print-is n line =
       rw possible (by-test (eqb n 0) (λ z. rw z (told _ _ _ _ _, h)) (λ z. rw z (told (says n) d q t out, h)))

@@ -40,7 +40,8 @@ use Rattle.settings.specs.Ranges.{goodShared, formatOf}
 use Rattle.settings.specs.Binary.{binaryRefusal}
 use Rattle.recorder.specs.Outcomes.{Lent, Outcome, ends, refuses, queueReady, noted, withQueue}
 use Rattle.common.specs.Refusals.{isRefusal}
-use Rattle.recorder.specs.Receiving.{opened, changed, filterSet, eventMaskSet, raised, recordRead, textRead, lookSaid, through}
+use Rattle.recorder.specs.Receiving.{opened, changed, filterSet, eventMaskSet, raised}
+use Rattle.recorder.specs.Receiving.{recordRead, textRead, lookSaid, through}
 use Rattle.recorder.specs.Receiving as Received
 use Rattle.recorder.specs.Sending.{lifted, carried, carrying, sent, textSent, taken, finished, aborted}
 use Rattle.recorder.specs.Printing.{linePrinted, messageRecordPrinted, eventRecordPrinted, messagePrinted}
@@ -66,7 +67,8 @@ module _ (ns : List ℕ) (d : Device) (l : Lent) where
   H o = Harmless ns (λ n. 0) d l o
 
   refused : (n : ℕ) → among n ns ≡ true → H (refuses n d l)
-  refused n h = record { is-listed = h; device-kept = λ e. refl; bytes-kept = λ e. refl; zero-bytes = λ e. refl; value-is = λ e. refl }
+  refused n h =
+      record { is-listed = h; device-kept = λ e. refl; bytes-kept = λ e. refl; zero-bytes = λ e. refl; value-is = λ e. refl }
 
   no-refusal : (o : Outcome) → among (o .number) ns ≡ true → isRefusal (o .number) ≡ false → H o
   no-refusal o h z = record {
@@ -104,7 +106,8 @@ record Met (r : Receive) (t : List ℕ) (g : Raising) : Type 0 where
   receive-kept : isRefusal (g .number) ≡ true → g .receive ≡ r
   table-kept : isRefusal (g .number) ≡ true → g .table ≡ t
 
-raised-met : (h : Shared) (r : Receive) (code tick : ℕ) (m : Message) (t : List ℕ) → Met r t (Queue.raised h r code tick m t)
+raised-met : (h : Shared) (r : Receive) (code tick : ℕ) (m : Message) (t : List ℕ)
+    → Met r t (Queue.raised h r code tick m t)
 unfolding Queue.raised meets unfiltered queued isRefusal
 raised-met h r code tick m t =
     let e = eventOf code tick m in
@@ -115,7 +118,8 @@ raised-met h r code tick m t =
     (record { number-in = refl; receive-kept = λ x. absurd (apart (sym x)); table-kept = λ x. absurd (apart (sym x)) })
     (record { number-in = refl; receive-kept = λ x. absurd (apart (sym x)); table-kept = λ x. absurd (apart (sym x)) }))
     (kept 102 refl)))
-    (λ z. kept _ (raise-number h r code tick m t (Other raiseNumbers) (λ x. absurd (apart x)) (λ x. refl) (λ x. refl) (λ x. refl)
+    (λ z. kept _ (raise-number h r code tick m t (Other raiseNumbers) (λ x. absurd (apart x)) (λ x. refl) (λ x. refl)
+    (λ x. refl)
     (λ x. refl) (λ x. refl) z))
   where
     kept : (n : ℕ) → among n raiseNumbers ≡ true → Met r t (raises n r t)
@@ -146,13 +150,16 @@ module _ (d : Device) (l : Lent) where
       pick-is (λ (w : Queue.Outcome). H ns d l (Received.lifted w d l)) (eqb n 0) (λ e. p) (λ e. r (h e))
 
   -- and likewise on a device: 2 where the send channel is not possible
-  receive-fine : (ns : List ℕ) (n : ℕ) (o : Queue.Outcome) → among 2 ns ≡ true → Other ns n → H ns d l (Received.lifted o d l)
+  receive-fine : (ns : List ℕ) (n : ℕ) (o : Queue.Outcome) → among 2 ns ≡ true → Other ns n
+      → H ns d l (Received.lifted o d l)
       → H ns d l (Received.received (Queue.settled n [] (d .receive) o) d l)
   receive-fine ns n o two h p =
-      both (H ns d l) (goodSend (d .send)) _ _ (by-received ns n [] o h p (λ e. refused ns d l n e)) (refused ns d l 2 two)
+      both (H ns d l) (goodSend (d .send)) _ _ (by-received ns n [] o h p (λ e. refused ns d l n e))
+      (refused ns d l 2 two)
 
   -- the oldest event's number
-  oldest-number : (ns : List ℕ) → among 4 ns ≡ true → among 14 ns ≡ true → Other ns (oldestRefusal (d .receive) (l .queue))
+  oldest-number : (ns : List ℕ) → among 4 ns ≡ true → among 14 ns ≡ true
+      → Other ns (oldestRefusal (d .receive) (l .queue))
   unfolding oldestRefusal
   oldest-number ns four fourteen =
       both (Other ns) (eqb (d .receive .ring .count) 0) 4 _ (λ e. four)
@@ -164,7 +171,8 @@ module _ (d : Device) (l : Lent) where
       let ns : List ℕ = 2 ∷ 3 ∷ 4 ∷ 14 ∷ 0 ∷ [] in
       let line = eventLine (d .shared .align) (eventIn (slotAt (d .receive) (l .queue) 0)) in
       let own = oldestRefusal (d .receive) (l .queue) in
-      receive-fine ns (textRefusal (d .shared) (d .receive) (l .queue) (length (l .out))) (Queue.prints (d .receive) line) refl
+      receive-fine ns (textRefusal (d .shared) (d .receive) (l .queue) (length (l .out)))
+      (Queue.prints (d .receive) line) refl
       (both (Other ns) (ready (d .shared) (d .receive) (length (l .queue))) (pick (ltb (length (l .out)) 80) 3 own) 2
       (both (Other ns) (ltb (length (l .out)) 80) 3 own (λ e. refl) (oldest-number ns refl refl)) (λ e. refl))
       (succeeds ns d l _ _ _ _ refl)
@@ -187,14 +195,16 @@ module _ (d : Device) (l : Lent) where
   changed-fine s tick =
       let ns : List ℕ = 2 ∷ 1 ∷ 0 ∷ [] in
       both (H ns d l) (queueReady d l) _ _
-      (both (H ns d l) (goodShared s) _ _ (succeeds-noted ns d l (eventOf 5 tick noMessage) 0 [] (withShared d s) l refl) (refused ns d l 1 refl))
+      (both (H ns d l) (goodShared s) _ _ (succeeds-noted ns d l (eventOf 5 tick noMessage) 0 [] (withShared d s) l
+      refl) (refused ns d l 1 refl))
       (refused ns d l 2 refl)
 
   filter-fine : (code mask : ℕ) → H (listedReceive (setFilter code mask)) d l (filterSet code mask d l)
   unfolding filterSet Queue.filterSet filterRefusal
   filter-fine code mask =
       let ns : List ℕ = 2 ∷ 0 ∷ [] in
-      receive-fine ns (filterRefusal (d .shared) (d .receive)) (Queue.ends 0 0 [] [] (withFilter (d .receive) code mask)) refl
+      receive-fine ns (filterRefusal (d .shared) (d .receive))
+      (Queue.ends 0 0 [] [] (withFilter (d .receive) code mask)) refl
       (both (Other ns) (Judged.possible (d .shared) (d .receive)) 0 2 (λ e. refl) (λ e. refl))
       (succeeds ns d l _ _ _ _ refl)
 
@@ -202,7 +212,8 @@ module _ (d : Device) (l : Lent) where
   unfolding eventMaskSet Queue.eventMaskSet maskRefusal
   mask-fine events =
       let ns : List ℕ = 2 ∷ 1 ∷ 0 ∷ [] in
-      receive-fine ns (maskRefusal (d .shared) (d .receive) events) (Queue.ends 0 0 [] [] (withEvents (d .receive) events)) refl
+      receive-fine ns (maskRefusal (d .shared) (d .receive) events)
+      (Queue.ends 0 0 [] [] (withEvents (d .receive) events)) refl
       (both (Other ns) (Judged.possible (d .shared) (d .receive)) (pick (isMask events) 0 1) 2
       (both (Other ns) (isMask events) 0 1 (λ e. refl) (λ e. refl)) (λ e. refl))
       (succeeds ns d l _ _ _ _ refl)
@@ -223,7 +234,8 @@ module _ (d : Device) (l : Lent) where
   by-settled P n v b o p r = pick-is P (eqb n 0) (λ e. p) r
 
   -- a message's number: 2, its own, 5 or 0
-  put-number : (P : ℕ → Type 0) (own : ℕ) → P 2 → P own → P 5 → P 0 → P (putRefusal (d .shared) (d .send) (length (l .send)) own)
+  put-number : (P : ℕ → Type 0) (own : ℕ) → P 2 → P own → P 5 → P 0
+      → P (putRefusal (d .shared) (d .send) (length (l .send)) own)
   unfolding putRefusal
   put-number P own two o five zero =
       both P (Refusals.usable (d .shared) (d .send) (length (l .send))) _ 2
@@ -235,15 +247,18 @@ module _ (d : Device) (l : Lent) where
       let ns : List ℕ = 2 ∷ 13 ∷ 8 ∷ 9 ∷ 10 ∷ 5 ∷ 0 ∷ [] in
       let own = binaryRefusal (d .shared) m in
       let listed : Other ns (putRefusal (d .shared) (d .send) (length (l .send)) own) =
-      put-number (Other ns) own (λ e. refl) (binary-number (Other ns) (d .shared) m (λ e. refl) (λ e. refl) (λ e. refl) (λ e. refl) (λ e. refl))
+      put-number (Other ns) own (λ e. refl) (binary-number (Other ns) (d .shared) m (λ e. refl) (λ e. refl)
+      (λ e. refl) (λ e. refl) (λ e. refl))
       (λ e. refl) (λ e. refl) in
       both (H ns d l) (goodReceive (d .receive)) _ _
-      (by-settled (λ w. H ns d l (lifted w d l)) (putRefusal (d .shared) (d .send) (length (l .send)) own) 0 [] _ (succeeds ns d l _ _ _ _ refl) (λ e. refused ns d l _ (listed e)))
+      (by-settled (λ w. H ns d l (lifted w d l)) (putRefusal (d .shared) (d .send) (length (l .send)) own) 0 [] _
+      (succeeds ns d l _ _ _ _ refl) (λ e. refused ns d l _ (listed e)))
       (refused ns d l 2 refl)
 
   -- a refusal that answers zero bytes
   refused-bytes : (ns : List ℕ) (n : ℕ) → among n ns ≡ true → H ns d l (ends n 0 (replicate messageSize 0) d l)
-  refused-bytes ns n h = record { is-listed = h; device-kept = λ x. refl; bytes-kept = λ x. refl; zero-bytes = λ x. refl; value-is = λ x. refl }
+  refused-bytes ns n h =
+      record { is-listed = h; device-kept = λ x. refl; bytes-kept = λ x. refl; zero-bytes = λ x. refl; value-is = λ x. refl }
 
   take-number : Other (2 ∷ 5 ∷ 4 ∷ 14 ∷ 0 ∷ []) (takeRefusal (d .shared) (d .send) (l .send))
   unfolding takeRefusal waitRefusal
@@ -252,14 +267,16 @@ module _ (d : Device) (l : Lent) where
       both N (eqb (waitRefusal (d .shared) (d .send) (length (l .send))) 0) _ _
       (both N (isMessage (oldest (d .send) (l .send))) 0 14 (λ e. refl) (λ e. refl))
       (both N (Refusals.usable (d .shared) (d .send) (length (l .send))) _ 2
-      (both N (d .send .held) 5 _ (λ e. refl) (both N (eqb (d .send .ring .count) 0) 4 0 (λ e. refl) (λ e. refl))) (λ e. refl))
+      (both N (d .send .held) 5 _ (λ e. refl) (both N (eqb (d .send .ring .count) 0) 4 0 (λ e. refl) (λ e. refl)))
+      (λ e. refl))
 
   take-fine : (tick : ℕ) → H (listedSend (take tick)) d l (taken tick d l)
   unfolding taken Wire.taken carried
   take-fine tick =
       let ns : List ℕ = 2 ∷ 5 ∷ 4 ∷ 14 ∷ 0 ∷ [] in
       both (H ns d l) (usable (d .receive) (l .queue)) _ _
-      (by-settled (λ w. H ns d l (carrying w d l)) (takeRefusal (d .shared) (d .send) (l .send)) 0 _ _ (succeeds ns d l _ _ _ _ refl)
+      (by-settled (λ w. H ns d l (carrying w d l)) (takeRefusal (d .shared) (d .send) (l .send)) 0 _ _
+      (succeeds ns d l _ _ _ _ refl)
       (λ e. refused-bytes ns _ (take-number e)))
       (refused-bytes ns 2 refl)
 
@@ -268,9 +285,11 @@ module _ (d : Device) (l : Lent) where
   done-fine tick =
       let ns : List ℕ = 2 ∷ 4 ∷ 0 ∷ [] in
       let listed : Other ns (doneRefusal (d .shared) (d .send)) =
-      both (Other ns) (possible (d .shared) (d .send)) _ 2 (both (Other ns) (d .send .held) 0 4 (λ e. refl) (λ e. refl)) (λ e. refl) in
+      both (Other ns) (possible (d .shared) (d .send)) _ 2
+      (both (Other ns) (d .send .held) 0 4 (λ e. refl) (λ e. refl)) (λ e. refl) in
       both (H ns d l) (usable (d .receive) (l .queue)) _ _
-      (by-settled (λ w. H ns d l (carrying w d l)) (doneRefusal (d .shared) (d .send)) 0 [] _ (succeeds ns d l _ _ _ _ refl) (λ e. refused ns d l _ (listed e)))
+      (by-settled (λ w. H ns d l (carrying w d l)) (doneRefusal (d .shared) (d .send)) 0 [] _
+      (succeeds ns d l _ _ _ _ refl) (λ e. refused ns d l _ (listed e)))
       (refused ns d l 2 refl)
 
   abort-fine : (tick : ℕ) → H (listedSend (abort tick)) d l (aborted tick d l)
@@ -280,28 +299,33 @@ module _ (d : Device) (l : Lent) where
       let listed : Other ns (abortRefusal (d .shared) (d .send)) =
       both (Other ns) (possible (d .shared) (d .send)) 0 2 (λ e. refl) (λ e. refl) in
       both (H ns d l) (usable (d .receive) (l .queue)) _ _
-      (by-settled (λ w. H ns d l (carrying w d l)) (abortRefusal (d .shared) (d .send)) 0 [] _ (succeeds ns d l _ _ _ _ refl) (λ e. refused ns d l _ (listed e)))
+      (by-settled (λ w. H ns d l (carrying w d l)) (abortRefusal (d .shared) (d .send)) 0 [] _
+      (succeeds ns d l _ _ _ _ refl) (λ e. refused ns d l _ (listed e)))
       (refused ns d l 2 refl)
 
   -- a line is printed, or its first refusal answered; the Align of a good device is in range
-  print-fine : (ns : List ℕ) (n : ℕ) (line : List ℕ) → among 0 ns ≡ true → among 2 ns ≡ true → (d .shared .align ≤ 3 → Other ns n) → H ns d l (linePrinted n line d l)
+  print-fine : (ns : List ℕ) (n : ℕ) (line : List ℕ) → among 0 ns ≡ true → among 2 ns ≡ true
+      → (d .shared .align ≤ 3 → Other ns n) → H ns d l (linePrinted n line d l)
   unfolding linePrinted
   print-fine ns n line z t h =
-      pick-is (H ns d l) (good d) (λ g. by-number ns d l n _ (h (align-in d g)) (λ e. succeeds ns d l _ _ _ _ z)) (λ g. refused ns d l 2 t)
+      pick-is (H ns d l) (good d) (λ g. by-number ns d l n _ (h (align-in d g)) (λ e. succeeds ns d l _ _ _ _ z))
+      (λ g. refused ns d l 2 t)
 
   message-record-fine : (s : List ℕ) → H (listedPrint (printMessageRecord s)) d l (messageRecordPrinted s d l)
   unfolding messageRecordRefusal
   message-record-fine s =
       let ns : List ℕ = 2 ∷ 3 ∷ 14 ∷ 0 ∷ [] in
       print-fine ns _ _ refl refl
-      (room-align ns (d .shared .align) (length (l .out)) 37 (pick (isMessage s) 0 14) refl (both (Other ns) (isMessage s) 0 14 (λ e. refl) (λ e. refl)))
+      (room-align ns (d .shared .align) (length (l .out)) 37 (pick (isMessage s) 0 14) refl
+      (both (Other ns) (isMessage s) 0 14 (λ e. refl) (λ e. refl)))
 
   event-record-fine : (s : List ℕ) → H (listedPrint (printEventRecord s)) d l (eventRecordPrinted s d l)
   unfolding eventRecordRefusal
   event-record-fine s =
       let ns : List ℕ = 2 ∷ 3 ∷ 14 ∷ 0 ∷ [] in
       print-fine ns _ _ refl refl
-      (room-align ns (d .shared .align) (length (l .out)) 80 (pick (isEvent s) 0 14) refl (both (Other ns) (isEvent s) 0 14 (λ e. refl) (λ e. refl)))
+      (room-align ns (d .shared .align) (length (l .out)) 80 (pick (isEvent s) 0 14) refl
+      (both (Other ns) (isEvent s) 0 14 (λ e. refl) (λ e. refl)))
 
   message-fine : (m : Message) → H (listedPrint (printMessage m)) d l (messagePrinted m d l)
   unfolding messageRefusal
@@ -335,7 +359,8 @@ module _ (d : Device) (l : Lent) where
     abbrev T : Outcome → Type 0
     T o = Harmless textNumbers (besideSend (sendText text)) d l o
 
-    refused-text : (n used : ℕ) → among n textNumbers ≡ true → used ≡ besideSend (sendText text) n → T (ends n used [] d l)
+    refused-text : (n used : ℕ) → among n textNumbers ≡ true → used ≡ besideSend (sendText text) n
+        → T (ends n used [] d l)
     refused-text n used h u = record {
       is-listed = h;
       device-kept = λ x. refl;
@@ -356,12 +381,15 @@ module _ (d : Device) (l : Lent) where
 
     -- what a text says, with its own refusal and the bytes used
     abbrev Told : ℕ → ℕ → Message → ℕ → Type 0
-    Told own used m n = T (lifted (Wire.settled n (pick (eqb n own) used 0) [] (d .send) (l .send) (Wire.puts (d .send) m used (l .send))) d l)
+    Told own used m n =
+        T (lifted (Wire.settled n (pick (eqb n own) used 0) [] (d .send) (l .send)
+        (Wire.puts (d .send) m used (l .send))) d l)
 
     read-fine : (own used : ℕ) (m : Message) → eqb 2 own ≡ false → eqb 5 own ≡ false → Told own used m own
         → Told own used m (putRefusal (d .shared) (d .send) (length (l .send)) own)
     read-fine own used m two five o =
-        put-number (Told own used m) own (rw two (refused-text 2 0 refl refl)) o (rw five (refused-text 5 0 refl refl)) (taken-text used _ _)
+        put-number (Told own used m) own (rw two (refused-text 2 0 refl refl)) o
+        (rw five (refused-text 5 0 refl refl)) (taken-text used _ _)
 
     -- a refusal of a text with an end is none of 2, 5 and 6
     other : (n : ℕ) → among n (7 ∷ 8 ∷ 9 ∷ 10 ∷ 11 ∷ 12 ∷ []) ≡ true → T (ends n (usedOf text) [] d l)
@@ -371,9 +399,11 @@ module _ (d : Device) (l : Lent) where
         let none-of : among n (2 ∷ 5 ∷ 6 ∷ []) ≡ false = denied refl out in
         refused-text n (usedOf text) (each-is (λ k. among k textNumbers) n ns refl h) (rw none-of)
 
-    own : (n : ℕ) (m : Message) → among n (7 ∷ 8 ∷ 9 ∷ 10 ∷ 11 ∷ 12 ∷ []) ≡ true → Told n (usedOf text) m (putRefusal (d .shared) (d .send) (length (l .send)) n)
+    own : (n : ℕ) (m : Message) → among n (7 ∷ 8 ∷ 9 ∷ 10 ∷ 11 ∷ 12 ∷ []) ≡ true
+        → Told n (usedOf text) m (putRefusal (d .shared) (d .send) (length (l .send)) n)
     own n m h =
-        let not-in : (k : ℕ) → _≡_ {A = Bool} (each (λ i. not (eqb k i)) (7 ∷ 8 ∷ 9 ∷ 10 ∷ 11 ∷ 12 ∷ [])) true → eqb k n ≡ false =
+        let not-in : (k : ℕ) → _≡_ {A = Bool} (each (λ i. not (eqb k i)) (7 ∷ 8 ∷ 9 ∷ 10 ∷ 11 ∷ 12 ∷ [])) true
+        → eqb k n ≡ false =
         λ k e. denied refl (each-is (λ i. not (eqb k i)) n (7 ∷ 8 ∷ 9 ∷ 10 ∷ 11 ∷ 12 ∷ []) e h) in
         let z : eqb n 0 ≡ false = denied refl (each-is (λ i. not (eqb i 0)) n (7 ∷ 8 ∷ 9 ∷ 10 ∷ 11 ∷ 12 ∷ []) refl h) in
         read-fine n (usedOf text) m (not-in 2 refl) (not-in 5 refl) (rw (z, eq-eqb n n refl) (other n h))
@@ -382,15 +412,16 @@ module _ (d : Device) (l : Lent) where
     unfolding textSent Wire.textSent
     send-text-fine =
         both T (goodReceive (d .receive)) _ _
-        (read-is (λ s. T (lifted (Wire.readSent (d .shared) (d .send) (Wire.readAs s) (l .send)) d l)) (d .shared .align)
+        (read-is (λ s. T (lifted (Wire.readSent (d .shared) (d .send) (Wire.readAs s) (l .send)) d l))
+        (d .shared .align)
         (formatOf (d .shared) (d .shared .format)) text (read-fine 6 0 noMessage refl refl (refused-text 6 0 refl refl))
         (λ n h. own n noMessage h) (λ f. read-fine 0 _ _ refl refl (taken-text _ _ _)))
         (refused-text 2 0 refl refl)
 
 -- ---- demand 1
 
--- THEOREM, demand 1. Every call on any device, with any tables and buffers: its number is one of those listed for it, and a refusal changes
--- nothing and stands beside zeros, a refused text beside the bytes used
+-- THEOREM, demand 1. Every call on any device, with any tables and buffers: its number is one of those listed for
+-- it, and a refusal changes nothing and stands beside zeros, a refused text beside the bytes used
 pub harmless : (x : Call) (d : Device) (l : Lent) → CallHarmless x d l
 unfolding outcome listed beside
 harmless (onDevice (raise code tick m)) d l = raise-fine d l code tick m
@@ -417,6 +448,7 @@ unfolding opened
 open-harmless s l =
     let ns : List ℕ = 1 ∷ 2 ∷ 0 ∷ [] in
     both (H ns noDevice l) (good (fresh s)) _ _
-    (both (H ns noDevice l) (queueFits (fresh s .receive) (length (l .queue)) && sendFits (fresh s .send) (length (l .send))) _ _
+    (both (H ns noDevice l) (queueFits (fresh s .receive) (length (l .queue))
+    && sendFits (fresh s .send) (length (l .send))) _ _
     (succeeds ns noDevice l 0 [] (fresh s) l refl) (refused ns noDevice l 2 refl))
     (refused ns noDevice l 1 refl)

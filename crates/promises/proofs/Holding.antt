@@ -1,4 +1,5 @@
--- A ring that holds the bytes of a list's entries: one more at the end, the oldest taken, none, and the one at a position.
+-- A ring that holds the bytes of a list's entries: one more at the end, the oldest taken, none,
+-- and the one at a position.
 use Prim.Native.Nat.{ℕ, zero, suc, _+_, _*_, _%_, _≤_, _<_}
 use mathlib.Core.Path.{_≡_, refl, sym, ap, _∙_}
 use mathlib.Core.Bool.{true}
@@ -33,10 +34,12 @@ foremost (b ∷ bs) = b
 module _ {A : Type 0} (bytes : A → List ℕ) (w limit : ℕ) (r : Ring) (t : List ℕ) where
   -- as many entries as the ring counts
   pub holds-count : (xs : List A) → Holds bytes w limit r t xs → r .count ≡ length xs
-  holds-count xs h = sym (ring-length w t (r .capacity) (r .first) (r .count)) ∙ ap length (h .slots) ∙ length-map xs bytes
+  holds-count xs h =
+      sym (ring-length w t (r .capacity) (r .first) (r .count)) ∙ ap length (h .slots) ∙ length-map xs bytes
 
   -- an entry stored behind the newest
-  pub holds-more : (xs : List A) (x : A) → Holds bytes w limit r t xs → ltb (r .count) (r .capacity) ≡ true → length (bytes x) ≡ w
+  pub holds-more : (xs : List A) (x : A) → Holds bytes w limit r t xs → ltb (r .count) (r .capacity) ≡ true
+      → length (bytes x) ≡ w
       → Holds bytes w limit (withOneMore r) (store w t (slotOf r (r .count)) (bytes x)) (xs ++ x ∷ [])
   holds-more xs x h room size =
       let f : RingFacts limit r = good-ring limit r (h .numbers) in
@@ -66,7 +69,8 @@ module _ {A : Type 0} (bytes : A → List ℕ) (w limit : ℕ) (r : Ring) (t : L
   holds-none xs h =
       let f : RingFacts limit r = good-ring limit r (h .numbers) in
       record {
-        numbers = facts-good limit (purged r) (record { some = f .some; within = f .within; first-in = f .first-in; count-in = omega arith });
+        numbers =
+            facts-good limit (purged r) (record { some = f .some; within = f .within; first-in = f .first-in; count-in = omega arith });
         long = h .long;
         slots = refl;
       }

@@ -46,7 +46,8 @@ parts d h =
       send = and-right (a && (b && c)) (goodSend (d .send)) h;
     }
 
--- an opening that answered 0 gives the fresh device of its settings, which are in range, over tables that are long enough
+-- an opening that answered 0 gives the fresh device of its settings, which are in range,
+-- over tables that are long enough
 pub record Open (s : Settings) (l : Lent) : Type 0 where
   pub is-open : opened s l ≡ ends 0 0 [] (fresh s) l
   pub possible : good (fresh s) ≡ true
@@ -56,18 +57,21 @@ pub record Open (s : Settings) (l : Lent) : Type 0 where
 pub is-opened : (s : Settings) (l : Lent) → opened s l .number ≡ 0 → Open s l
 unfolding opened
 is-opened s l h =
-    by (good (fresh s)) (queueFits (fresh s .receive) (length (l .queue))) (sendFits (fresh s .send) (length (l .send))) refl refl refl h
+    by (good (fresh s)) (queueFits (fresh s .receive) (length (l .queue)))
+    (sendFits (fresh s .send) (length (l .send))) refl refl refl h
   where
     by : (a b c : Bool) → good (fresh s) ≡ a → queueFits (fresh s .receive) (length (l .queue)) ≡ b
         → sendFits (fresh s .send) (length (l .send)) ≡ c
-        → pick a (pick (b && c) (ends 0 0 [] (fresh s) l) (refuses 2 noDevice l)) (refuses 1 noDevice l) .number ≡ 0 → Open s l
+        → pick a (pick (b && c) (ends 0 0 [] (fresh s) l) (refuses 2 noDevice l)) (refuses 1 noDevice l) .number ≡ 0
+        → Open s l
     by true true true x y z e = record { is-open = rw (x, y, z); possible = x; queue-long = y; send-long = z }
     by true true false x y z e = absurd (omega (arith, e))
     by true false c x y z e = absurd (omega (arith, e))
     by false b c x y z e = absurd (omega (arith, e))
 
 -- THEOREM. An opening that answers 0 gives a device that stands for the fresh box of its settings
-pub opens : (s : Settings) (l : Lent) → TypedSettings s → opened s l .number ≡ 0 → RunStands (started s l) (Model.fresh s)
+pub opens : (s : Settings) (l : Lent) → TypedSettings s → opened s l .number ≡ 0
+    → RunStands (started s l) (Model.fresh s)
 unfolding ring goodSend
 opens s l ty e =
     let a = is-opened s l e in

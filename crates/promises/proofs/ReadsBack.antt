@@ -14,7 +14,8 @@ use Rattle.common.proofs.Numbers.{bytes-take, bytes-drop}
 use Rattle.common.proofs.RingFacts.{RingFacts, good-ring}
 use Rattle.records.specs.Messages.{messageSize, goodMessage, messageBytes, messageIn, isMessage, judgeMessage}
 use Rattle.records.specs.declared.Message.{Message}
-use Rattle.records.proofs.RoundTrip.{good-refusal, message-bytes-length, good-is, message-as, judged-good, judged-length, bytes-of-message}
+use Rattle.records.proofs.RoundTrip.{good-refusal, message-bytes-length, good-is, message-as}
+use Rattle.records.proofs.RoundTrip.{judged-good, judged-length, bytes-of-message}
 use Rattle.message_text.specs.Reading.{readMessage}
 use Rattle.message_text.specs.Printing.{messageRoom, messageLine, messageRefusal, messageRecordRefusal}
 use Rattle.message_text.specs.declared.Answer.the-variants.{Taken}
@@ -47,13 +48,16 @@ use Rattle.promises.proofs.Agreeing.{device-possible}
 use Rattle.promises.proofs.Opening.{Parts, parts}
 use Rattle.promises.proofs.Answers.{answers}
 
-module _ (m : Message) (d e : Device) (l n : Lent) (d-good : good d ≡ true) (room : messageRoom ≤ length (l .out)) (sound : SoundMessage m)
-    (own : m .header .format ≡ formatOf (d .shared) (d .shared .format)) (same : e .shared ≡ d .shared) (ready : sendReady e n ≡ true)
+module _ (m : Message) (d e : Device) (l n : Lent) (d-good : good d ≡ true) (room : messageRoom ≤ length (l .out))
+    (sound : SoundMessage m)
+    (own : m .header .format ≡ formatOf (d .shared) (d .shared .format)) (same : e .shared ≡ d .shared)
+    (ready : sendReady e n ≡ true)
     (free : e .send .ring .count < e .send .ring .capacity) where
   abbrev line : List ℕ
   line = messageLine (d .shared .align) m
 
-  printed-is : (k : ℕ) → k ≡ 0 → linePrinted k line d l ≡ ends 0 (length line) [] d (withOut l (line ++ drop (length line) (l .out)))
+  printed-is : (k : ℕ) → k ≡ 0
+      → linePrinted k line d l ≡ ends 0 (length line) [] d (withOut l (line ++ drop (length line) (l .out)))
   unfolding linePrinted
   printed-is k z = rw (d-good, z)
 
@@ -80,7 +84,8 @@ module _ (m : Message) (d e : Device) (l n : Lent) (d-good : good d ≡ true) (r
   facts =
       let a = goodTx (e .send .tx) in
       let b = goodRing sendLimit (e .send .ring) in
-      good-ring sendLimit (e .send .ring) (and-right a b (and-left (a && b) (not (e .send .held) || goodMessage (e .send .message)) e-send))
+      good-ring sendLimit (e .send .ring) (and-right a b
+      (and-left (a && b) (not (e .send .held) || goodMessage (e .send .message)) e-send))
 
   said : readMessage (e .shared .align) (formatOf (e .shared) (e .shared .format)) line
       ≡ record { answer = Taken (m .header) (length line); bytes = m .bytes }
@@ -96,14 +101,16 @@ module _ (m : Message) (d e : Device) (l n : Lent) (d-good : good d ≡ true) (r
   back : (x : Call) → outcome x d l ≡ ends 0 (length line) [] d (withOut l (line ++ drop (length line) (l .out)))
       → ReadsBack x (messageBytes m) d e l n
   back x p =
-      let t : take (outcome x d l .value) (outcome x d l .lent .out) ≡ line = rw p (take-at line (drop (length line) (l .out)) (length line) refl) in
+      let t : take (outcome x d l .value) (outcome x d l .lent .out) ≡ line =
+      rw p (take-at line (drop (length line) (l .out)) (length line) refl) in
       record {
         printed = rw p;
         taken = rw (t, sent-is);
         used = rw (t, sent-is);
         stored =
             rw (t, sent-is)
-            (held-more messageSize sendLimit (e .send .ring) (n .send) facts fits (messageBytes m) free (message-bytes-length m (sound .eight)));
+            (held-more messageSize sendLimit (e .send .ring) (n .send) facts fits (messageBytes m) free
+            (message-bytes-length m (sound .eight)));
       }
 
   -- THEOREM. A message of the device's own format reads back, printed by the call that prints a record
@@ -119,10 +126,12 @@ module _ (m : Message) (d e : Device) (l n : Lent) (d-good : good d ≡ true) (r
   unfolding outcome messageRefusal
   message-reads-back =
       back (onAlign (printMessage m))
-      (printed-is _ (rw (le-ltb (length (l .out)) messageRoom room, le-leb (d .shared .align) 3 align-le) (good-refusal m (sound .whole))))
+      (printed-is _ (rw (le-ltb (length (l .out)) messageRoom room, le-leb (d .shared .align) 3 align-le)
+      (good-refusal m (sound .whole))))
 
 -- any bytes that are a message are those of a sound one
-pub sound-in : (b : List ℕ) → isMessage b ≡ true → Bytes b → SoundMessage (messageIn b) × (messageBytes (messageIn b) ≡ b)
+pub sound-in : (b : List ℕ) → isMessage b ≡ true → Bytes b
+    → SoundMessage (messageIn b) × (messageBytes (messageIn b) ≡ b)
 unfolding messageIn
 sound-in b w h =
     let e : judgeMessage b .message ≡ messageIn b = message-as b w in
@@ -139,13 +148,15 @@ all-map : {A : Type 0} (P Q : A → Type 0) → ((a : A) → P a → Q a) → (x
 all-map P Q f [] h = tt
 all-map P Q f (x ∷ xs) h = (f x (h .0), all-map P Q f xs (h .1))
 
--- THEOREM, demand 2. After any calls from an opening, every message that was ever sent, be it waiting, taken or purged, if it is of the
--- channel's own format, printed by the device and sent as text to any device of the same mode, format and Align with room
+-- THEOREM, demand 2. After any calls from an opening, every message that was ever sent, be it waiting,
+-- taken or purged, if it is of the channel's own format, printed by the device and sent as text to any device of the
+-- same mode, format and Align with room
 pub stored-reads-back : (s : Settings) (l : Lent) (xs : List Made) → TypedSettings s → opened s l .number ≡ 0
     → let r : Run = run xs (started s l) in
     All
     (λ (m : Message). (out : List ℕ) (e : Device) (n : Lent) → messageRoom ≤ length out
-    → m .header .format ≡ formatOf (r .device .shared) (r .device .shared .format) → e .shared ≡ r .device .shared → sendReady e n ≡ true
+    → m .header .format ≡ formatOf (r .device .shared) (r .device .shared .format) → e .shared ≡ r .device .shared
+    → sendReady e n ≡ true
     → e .send .ring .count < e .send .ring .capacity
     → ReadsBack (onAlign (printMessageRecord (messageBytes m))) (messageBytes m) (r .device) e (lent r out) n)
     (Model.run 0 (map asked xs) (fresh s) .outbox .sent)
@@ -155,5 +166,6 @@ stored-reads-back s l xs ty h =
     let stands = answers s l xs ty h .1 .stands in
     let possible = device-possible (r .device) (r .queue) (r .send) b stands in
     all-map SoundMessage _
-    (λ m sound out e n room own same ready free. record-reads-back m (r .device) e (lent r out) n possible room sound own same ready free)
+    (λ m sound out e n room own same ready free. record-reads-back m (r .device) e (lent r out) n possible room sound
+    own same ready free)
     (b .outbox .sent) (stands .outbox .sound)

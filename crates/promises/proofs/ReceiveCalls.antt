@@ -30,7 +30,8 @@ use Rattle.channels.specs.Sending.{goodSend}
 use Rattle.recorder.specs.Receiving.{lifted, filterSet, eventMaskSet, recordRead, textRead, lookSaid, through}
 use Rattle.recorder.specs.declared.Device.{Device}
 use Rattle.model.specs.Said.{says, saysZeros, hands, prints}
-use Rattle.model.specs.Inbox.{Kept, Inbox, ReceiveCall, readRecord, readText, look, setFilter, setEventMask, identifiersThrough}
+use Rattle.model.specs.Inbox.{Kept, Inbox, ReceiveCall, readRecord, readText}
+use Rattle.model.specs.Inbox.{look, setFilter, setEventMask, identifiersThrough}
 use Rattle.model.specs.Inbox.{Received, takesOldest, receives}
 use Rattle.model.specs.Inbox as Model
 use Rattle.model.specs.Outbox.{Outbox}
@@ -159,7 +160,14 @@ module _ (d : Device) (q t out : List ℕ) (i : ℕ) (b : Inbox) (o : Outbox) (h
   unfolding outcome lookSaid lookRefusal looked slotOf step receives
   look-is p =
       let r = d .receive .ring in
-      rw (sends, possible, prepared, long, look-at eventSize q (r .capacity) (r .first) (r .count) (b .queue) p (h .inbox .events .slots))
+      rw (
+        sends,
+        possible,
+        prepared,
+        long,
+        look-at eventSize q (r .capacity) (r .first) (r .count) (b .queue) p
+            (h .inbox .events .slots),
+      )
       (by (ltb p (r .count)))
     where
       by : (c : Bool)

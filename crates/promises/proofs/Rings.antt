@@ -1,4 +1,5 @@
--- A ring that holds slots of w bytes, as a list: what a store behind its newest and a step past its oldest do to what it holds.
+-- A ring that holds slots of w bytes, as a list: what a store behind its newest and a step past its oldest do to
+-- what it holds.
 use Prim.Native.Nat.{ℕ, _+_, _*_, _-_, _%_, _≤_, _<_}
 use mathlib.Core.Path.{_≡_}
 use mathlib.Core.Bool.{true}
@@ -19,14 +20,20 @@ module _ (limit : ℕ) (r : Ring) where
   pub facts-good : RingFacts limit r → goodRing limit r ≡ true
   unfolding goodRing
   facts-good f =
-      rw (le-leb 1 (r .capacity) (f .some), le-leb (r .capacity) limit (f .within), lt-ltb (r .first) (r .capacity) (f .first-in), le-leb (r .count) (r .capacity) (f .count-in))
+      rw (
+        le-leb 1 (r .capacity) (f .some),
+        le-leb (r .capacity) limit (f .within),
+        lt-ltb (r .first) (r .capacity) (f .first-in),
+        le-leb (r .count) (r .capacity) (f .count-in),
+      )
 
   pub facts-more : RingFacts limit r → r .count < r .capacity → RingFacts limit (withOneMore r)
   facts-more f room = record { some = f .some; within = f .within; first-in = f .first-in; count-in = omega arith }
 
   pub facts-rest : RingFacts limit r → RingFacts limit (withoutOldest r)
   unfolding slotOf
-  facts-rest f = record { some = f .some; within = f .within; first-in = mod-lt (r .first + 1) (f .some); count-in = omega (arith, f .count-in) }
+  facts-rest f =
+      record { some = f .some; within = f .within; first-in = mod-lt (r .first + 1) (f .some); count-in = omega (arith, f .count-in) }
 
 module _ (w limit : ℕ) (r : Ring) (t : List ℕ) (f : RingFacts limit r) (long : w * r .capacity ≤ length t) where
   -- a store behind the newest: one more at the end

@@ -95,7 +95,8 @@ module _ (d : Device) (q t out : List ℕ) (i : ℕ) (b : Inbox) (o : Outbox) (h
       Wire.settled n (beside n) [] (d .send) t (Wire.puts (d .send) m v t)
 
   -- refused by its own refusal
-  put-not : (own : ℕ) (beside : ℕ → ℕ) (m : Message) (v : ℕ) → eqb own 0 ≡ false → Put own beside m v ≡ Wire.refused own (beside own) [] (d .send) t
+  put-not : (own : ℕ) (beside : ℕ → ℕ) (m : Message) (v : ℕ) → eqb own 0 ≡ false
+      → Put own beside m v ≡ Wire.refused own (beside own) [] (d .send) t
   unfolding putRefusal
   put-not own beside m v z = rw (ready, z, z)
 
@@ -130,7 +131,8 @@ module _ (d : Device) (q t out : List ℕ) (i : ℕ) (b : Inbox) (o : Outbox) (h
       let n = binaryRefusal (d .shared) m in
       rw receive
       (by-test (eqb n 0)
-      (λ z. rw (z, eqb-true n 0 z) (put-is (λ k. 0) (sentMessage (d .shared) m) 0 refl (sent-sound (d .shared) m f (eqb-true n 0 z))))
+      (λ z. rw (z, eqb-true n 0 z) (put-is (λ k. 0) (sentMessage (d .shared) m) 0 refl
+      (sent-sound (d .shared) m f (eqb-true n 0 z))))
       (λ z. rw (z, put-not n (λ k. 0) (sentMessage (d .shared) m) 0 z) (told (says n) d q t out, h)))
 
   -- a text send
@@ -140,7 +142,8 @@ module _ (d : Device) (q t out : List ℕ) (i : ℕ) (b : Inbox) (o : Outbox) (h
       let align = d .shared .align in
       let f = formatOf (d .shared) (d .shared .format) in
       rw receive
-      (read-is (λ a. readMessage align f text ≡ a → Agrees (lifted (Wire.readSent (d .shared) (d .send) (Wire.readAs a) t) d l) out (Mailed d i b (putText a o)))
+      (read-is (λ a. readMessage align f text ≡ a
+      → Agrees (lifted (Wire.readSent (d .shared) (d .send) (Wire.readAs a) t) d l) out (Mailed d i b (putText a o)))
       align f text
       (λ e. rw (put-not 6 (beside 6 0) noMessage 0 refl) (told (says 6) d q t out, h))
       (λ n r e.
@@ -163,7 +166,8 @@ module _ (d : Device) (q t out : List ℕ) (i : ℕ) (b : Inbox) (o : Outbox) (h
   unfolding Wire.taken takeRefusal waitRefusal
   taken-5 tick e = rw (ready, e)
 
-  taken-4 : (tick : ℕ) → d .send .held ≡ false → o .buffer ≡ [] → After tick ≡ Wire.refused 4 0 (replicate messageSize 0) (d .send) t
+  taken-4 : (tick : ℕ) → d .send .held ≡ false → o .buffer ≡ []
+      → After tick ≡ Wire.refused 4 0 (replicate messageSize 0) (d .send) t
   unfolding Wire.taken takeRefusal waitRefusal
   taken-4 tick e n = rw (ready, e, eq-eqb (d .send .ring .count) 0 (count-is ∙ ap length n))
 
@@ -194,7 +198,8 @@ module _ (d : Device) (q t out : List ℕ) (i : ℕ) (b : Inbox) (o : Outbox) (h
       register = (refl, refl, first);
     }
 
-  finished-4 : (tick : ℕ) → d .send .held ≡ false → Wire.finished (d .shared) (d .send) tick t ≡ Wire.refused 4 0 [] (d .send) t
+  finished-4 : (tick : ℕ) → d .send .held ≡ false
+      → Wire.finished (d .shared) (d .send) tick t ≡ Wire.refused 4 0 [] (d .send) t
   unfolding Wire.finished doneRefusal
   finished-4 tick e = rw (able, e)
 
@@ -204,7 +209,8 @@ module _ (d : Device) (q t out : List ℕ) (i : ℕ) (b : Inbox) (o : Outbox) (h
   unfolding Wire.finished doneRefusal
   finished-0 tick m e q =
       rw (able, e)
-      (ap (λ (x : Message). Wire.ends 0 0 [] (afterDone (d .send)) t (Wire.raisedIf (raisesAtDone (d .send .tx)) 2 tick x)) q)
+      (ap (λ (x : Message). Wire.ends 0 0 [] (afterDone (d .send)) t
+      (Wire.raisedIf (raisesAtDone (d .send .tx)) 2 tick x)) q)
 
   aborted-0 : (tick : ℕ) → Wire.aborted (d .shared) (d .send) tick t ≡ Wire.aborts (d .send) tick t
   unfolding Wire.aborted abortRefusal
@@ -224,7 +230,8 @@ module _ (d : Device) (q t out : List ℕ) (i : ℕ) (b : Inbox) (o : Outbox) (h
           agrees-as
           (ap (λ (w : Wire.Outcome). carrying w d l) (taken-0 m rest e tick z)
           ∙ carries-as (raisesAtTake (d .send .tx)) 2 tick m refl 0 0 (messageBytes m) (afterTake (d .send) m) t d l)
-          (notes-if (raisesAtTake (d .send .tx)) (raisesAtTake (o .tx)) (rw (h .outbox .tx)) (eventOf 2 tick m) i _ out (hands (messageBytes m)) _
+          (notes-if (raisesAtTake (d .send .tx)) (raisesAtTake (o .tx)) (rw (h .outbox .tx)) (eventOf 2 tick m) i _
+          out (hands (messageBytes m)) _
           (message-event-sound tick m ty (first m rest e) 2 (omega arith))
           (told _ _ _ _ _, with-send _ t _ (after-take m rest e)))
 
@@ -255,7 +262,8 @@ module _ (d : Device) (q t out : List ℕ) (i : ℕ) (b : Inbox) (o : Outbox) (h
           agrees-as
           (ap (λ (w : Wire.Outcome). carrying w d l) (finished-0 tick m (r .0) (r .1))
           ∙ carries-as (raisesAtDone (d .send .tx)) 2 tick m refl 0 0 [] (afterDone (d .send)) t d l)
-          (notes-if (raisesAtDone (d .send .tx)) (raisesAtDone (o .tx)) (rw (h .outbox .tx)) (eventOf 2 tick m) i _ out (says 0) _
+          (notes-if (raisesAtDone (d .send .tx)) (raisesAtDone (o .tx)) (rw (h .outbox .tx)) (eventOf 2 tick m) i _
+          out (says 0) _
           (message-event-sound tick m ty (r .2) 2 (omega arith))
           (told _ _ _ _ _, with-send _ t _ empty))
 
@@ -266,7 +274,8 @@ module _ (d : Device) (q t out : List ℕ) (i : ℕ) (b : Inbox) (o : Outbox) (h
       rw both
       (agrees-as
       (ap (λ (w : Wire.Outcome). carrying w d l) (aborted-0 tick)
-      ∙ carries-as (d .send .held) 3 tick (d .send .message) refl 0 (d .send .ring .count) [] (afterAbort (d .send)) t d l)
+      ∙ carries-as (d .send .held) 3 tick (d .send .message) refl 0 (d .send .ring .count) []
+      (afterAbort (d .send)) t d l)
       (by (o .register) (h .outbox .register)))
     where
       after : Outbox
@@ -281,7 +290,8 @@ module _ (d : Device) (q t out : List ℕ) (i : ℕ) (b : Inbox) (o : Outbox) (h
               possible = h .outbox .possible;
               tx = h .outbox .tx;
               places = h .outbox .places;
-              messages = holds-none messageBytes messageSize sendLimit (d .send .ring) t (o .buffer) (h .outbox .messages);
+              messages =
+                  holds-none messageBytes messageSize sendLimit (d .send .ring) t (o .buffer) (h .outbox .messages);
               sound = h .outbox .sound;
               waits = tt;
               register = (refl, refl);
@@ -298,7 +308,8 @@ module _ (d : Device) (q t out : List ℕ) (i : ℕ) (b : Inbox) (o : Outbox) (h
       by none z = goes-second (d .send .held) out _ _ (z .0) purge
       by (some m) r =
           goes-first (d .send .held) out _ _ (r .0)
-          (rw (r .1) (notes (eventOf 3 tick m) i _ out _ _ (message-event-sound tick m ty (r .2) 3 (omega arith)) purge))
+          (rw (r .1) (notes (eventOf 3 tick m) i _ out _ _
+          (message-event-sound tick m ty (r .2) 3 (omega arith)) purge))
 
   -- every call
   pub send-agrees : (x : SendCall) → TypedSend x → Doing x

@@ -1,4 +1,5 @@
--- The bench sheet's cases marked P, as one table and one statement about the definitions, by computation; then its other cases, alike.
+-- The bench sheet's cases marked P, as one table and one statement about the definitions, by computation;
+-- then its other cases, alike.
 -- Align 0, mode 0 unless said; MaskActive 0.
 use Prim.Native.Nat.{ℕ, _*_}
 use Prim.Native.String.{String}
@@ -16,9 +17,11 @@ use Rattle.digits.specs.Digits.{hexDigit, hex, decimalIn, fields}
 use Rattle.digits.specs.Reading.{byteKind}
 use Rattle.ids.specs.Ids.{isFormat, idBits, idLow, rawOf}
 use Rattle.ids.specs.Frames.{headerRefusal, carried}
-use Rattle.ids.specs.Filters.{isFilter, filterLow, dataCompared, free, fieldMeets, idPasses, byteMeets, dataPasses, modeTakes, framePasses, freeBits, letThrough}
+use Rattle.ids.specs.Filters.{isFilter, filterLow, dataCompared, free, fieldMeets, idPasses}
+use Rattle.ids.specs.Filters.{byteMeets, dataPasses, modeTakes, framePasses, freeBits, letThrough}
 use Rattle.ids.specs.EventMask.{maskBit, maskLets}
-use Rattle.records.specs.Messages.{messageSize, stored, goodMessage, messageBytes, messageIn, isMessage, noMessage, judgeMessage}
+use Rattle.records.specs.Messages.{messageSize, stored, goodMessage, messageBytes}
+use Rattle.records.specs.Messages.{messageIn, isMessage, noMessage, judgeMessage}
 use Rattle.records.specs.Events.{eventSize, holdsFrame, kindOf, eventBytes, eventIn, isEvent}
 use Rattle.records.specs.declared.Message.{Message}
 use Rattle.channels.specs.Receiving.{goodReceive}
@@ -54,7 +57,8 @@ use Rattle.promises.specs.Promised.{lostIn}
 
 -- one place for events and one for messages
 abbrev settings : (align code mask : ℕ) → Settings
-settings align code mask = record { mode = 0; format = 0; align = align; active = 0; code = code; mask = mask; events = 0xFFF; queue = 1; tx = 1; buffer = 1 }
+settings align code mask =
+    record { mode = 0; format = 0; align = align; active = 0; code = code; mask = mask; events = 0xFFF; queue = 1; tx = 1; buffer = 1 }
 
 abbrev tables : Lent
 tables = lends (replicate eventSize 0) (replicate messageSize 0) (replicate messageRoom 0)
@@ -70,18 +74,22 @@ text t = let o : Outcome = asks (settings 0 0 0) (onSend (sendText (ascii t))) i
 -- the standard frame 731 as it is shown
 abbrev shown : ℕ → List ℕ
 shown align =
-    let o : Outcome = asks (settings align 0 0) (onAlign (printMessage (record { header = record { id = 0x731; format = 1; rtr = 0; dlc = 0 }; bytes = replicate 8 0 }))) in
+    let o : Outcome =
+    asks (settings align 0 0) (onAlign (printMessage
+    (record { header = record { id = 0x731; format = 1; rtr = 0; dlc = 0 }; bytes = replicate 8 0 }))) in
     take (o .value) (o .lent .out)
 
 -- the standard frame 200 with two data bytes, of which it carries dlc: 100 where it passes, 101 where it is filtered
 abbrev frame200 : (dlc first second : ℕ) → List ℕ
 frame200 dlc a b =
-    let frame : Message = record { header = record { id = 0x200; format = 1; rtr = 0; dlc = dlc }; bytes = a ∷ b ∷ replicate 6 0 } in
+    let frame : Message =
+    record { header = record { id = 0x200; format = 1; rtr = 0; dlc = dlc }; bytes = a ∷ b ∷ replicate 6 0 } in
     asks (settings 0 0x40000100 0x000000FF) (onDevice (raise 1 0 frame)) .number ∷ []
 
 -- number, and how many standard identifiers pass
 abbrev letIn : (align code mask : ℕ) → List ℕ
-letIn align code mask = let o : Outcome = asks (settings align code mask) (onReceive (identifiersThrough 1)) in o .number ∷ o .value ∷ []
+letIn align code mask =
+    let o : Outcome = asks (settings align code mask) (onReceive (identifiersThrough 1)) in o .number ∷ o .value ∷ []
 
 -- a warning is raised, or the oldest is read
 warning : (tick : ℕ) → Word tick → Made
@@ -101,7 +109,8 @@ reading-one = record { call = onReceive readRecord; out = []; typed = tt }
 -- what calls have recorded in a queue of c places
 abbrev records : ℕ → List Made → List (List ℕ)
 records c xs =
-    recordedBytes (run xs (started (withPlaces (settings 0 0 0xFFFFFFFF) c) (lends (replicate (eventSize * c) 0) (replicate messageSize 0) [])))
+    recordedBytes (run xs (started (withPlaces (settings 0 0 0xFFFFFFFF) c)
+    (lends (replicate (eventSize * c) 0) (replicate messageSize 0) [])))
 
 -- the ticks of it, and each tick with its lost count
 abbrev tickIn : List ℕ → ℕ
@@ -146,27 +155,34 @@ rows =
     ∷ row "P with 02 07 it doesn't" (frame200 2 0x02 0x07) (101 ∷ [])
     ∷ row "P Align 1, code 400, mask 3FF: 1,024 identifiers" (letIn 1 0x400 0x3FF) (0 ∷ 1024 ∷ [])
     ∷ row "P capacity 1, raise A, B, C, read, raise D: A has lost 0, D has lost 2"
-    (losses (records 1 (warning 0xA (omega arith) ∷ warning 0xB (omega arith) ∷ warning 0xC (omega arith) ∷ reading-one ∷ warning 0xD (omega arith) ∷ [])))
+    (losses (records 1 (warning 0xA (omega arith) ∷ warning 0xB (omega arith) ∷ warning 0xC (omega arith)
+    ∷ reading-one ∷ warning 0xD (omega arith) ∷ [])))
     (0xA ∷ 0 ∷ 0xD ∷ 2 ∷ [])
     ∷ []
 
 -- the definitions say what the sheet says
 pub sheet : map (λ (r : Row). r .said) rows ≡ map (λ (r : Row). r .paper) rows
-unfolding rows warning reading-one outcome opened goodShared good formatOf goodReceive goodRing goodTx goodSend modeTakes textSent readMessage beforeEnd endRun byteKind
-    judged judgedData numbersFrom rawOf isFormat idLow idBits carried allBytes Outbox.textSent putRefusal usable possible slotOf store slot ring messageBytes linePrinted messageRefusal
-    headerRefusal messageLine messageText hex hexDigit fields raised holdsFrame kindOf eventOf stored Queue.raised Judged.possible ready raiseRefusal meets unfiltered filtered framePasses idPasses isFilter
-    filterLow dataCompared free fieldMeets byteMeets dataPasses maskBit maskLets queued eventBytes through freeBits letThrough Queue.through throughRefusal run next recordRead Queue.recordRead recordRefusal oldestRefusal isEvent
+unfolding rows warning reading-one outcome opened goodShared good formatOf goodReceive goodRing goodTx goodSend
+    modeTakes textSent readMessage beforeEnd endRun byteKind
+    judged judgedData numbersFrom rawOf isFormat idLow idBits carried allBytes Outbox.textSent putRefusal usable
+    possible slotOf store slot ring messageBytes linePrinted messageRefusal
+    headerRefusal messageLine messageText hex hexDigit fields raised holdsFrame kindOf eventOf stored Queue.raised
+    Judged.possible ready raiseRefusal meets unfiltered filtered framePasses idPasses isFilter
+    filterLow dataCompared free fieldMeets byteMeets dataPasses maskBit maskLets queued eventBytes through freeBits
+    letThrough Queue.through throughRefusal run next recordRead Queue.recordRead recordRefusal oldestRefusal isEvent
 sheet = refl
 
 -- raise 1, 2, read, raise 3, 4, read, raise 5
 abbrev fives : List Made
 fives =
-    warning 1 (omega arith) ∷ warning 2 (omega arith) ∷ reading-one ∷ warning 3 (omega arith) ∷ warning 4 (omega arith) ∷ reading-one ∷ warning 5 (omega arith) ∷ []
+    warning 1 (omega arith) ∷ warning 2 (omega arith) ∷ reading-one ∷ warning 3 (omega arith)
+    ∷ warning 4 (omega arith) ∷ reading-one ∷ warning 5 (omega arith) ∷ []
 
 -- the frame 112 is received at tick 12568
 received : Made
 received = record {
-  call = onDevice (raise 1 12568 (record { header = record { id = 0x112; format = 1; rtr = 1; dlc = 0 }; bytes = replicate 8 0 }));
+  call =
+      onDevice (raise 1 12568 (record { header = record { id = 0x112; format = 1; rtr = 1; dlc = 0 }; bytes = replicate 8 0 }));
   out = [];
   typed = (
     omega arith,
@@ -179,13 +195,16 @@ received = record {
 abbrev readInto : ℕ → List ℕ
 readInto room =
     let one : Made = warning 1 (omega arith) in
-    let r : Run = run (one ∷ one ∷ one ∷ one ∷ one ∷ one ∷ reading-one ∷ received ∷ []) (started (settings 0 0 0xFFFFFFFF) tables) in
+    let r : Run =
+    run (one ∷ one ∷ one ∷ one ∷ one ∷ one ∷ reading-one ∷ received ∷ [])
+    (started (settings 0 0 0xFFFFFFFF) tables) in
     let o : Outcome = outcome (onReceive readText) (r .device) (lent r (replicate room 0)) in
     o .number ∷ take (o .value) (o .lent .out)
 
 pub others : List Row
 others =
-    row "731 0 F 1 2 3 4 5 6 7 8 LF taken" (text "731 0 F 1 2 3 4 5 6 7 8\n") (0 ∷ 24 ∷ 0x31 ∷ 7 ∷ 0 ∷ 0 ∷ 1 ∷ 0 ∷ 15 ∷ 0 ∷ 1 ∷ 2 ∷ 3 ∷ 4 ∷ 5 ∷ 6 ∷ 7 ∷ 8 ∷ [])
+    row "731 0 F 1 2 3 4 5 6 7 8 LF taken" (text "731 0 F 1 2 3 4 5 6 7 8\n")
+    (0 ∷ 24 ∷ 0x31 ∷ 7 ∷ 0 ∷ 0 ∷ 1 ∷ 0 ∷ 15 ∷ 0 ∷ 1 ∷ 2 ∷ 3 ∷ 4 ∷ 5 ∷ 6 ∷ 7 ∷ 8 ∷ [])
     ∷ row "731 0 10 LF: 10" (text "731 0 10\n") (10 ∷ 9 ∷ untouched)
     ∷ row "731 0 2 11 LF: 7" (text "731 0 2 11\n") (7 ∷ 11 ∷ untouched)
     ∷ row "731 0 1 100 LF: 12" (text "731 0 1 100\n") (12 ∷ 12 ∷ untouched)
@@ -194,13 +213,20 @@ others =
     ∷ row "Raise 1, 2, read, raise 3, 4, read, raise 5: capacity 1 records 1, 3, 5" (ticks 1 fives) (1 ∷ 3 ∷ 5 ∷ [])
     ∷ row "capacity 2 records 1, 2, 3, 5" (ticks 2 fives) (1 ∷ 2 ∷ 3 ∷ 5 ∷ [])
     ∷ row "Room 79 refused" (readInto 79) (3 ∷ [])
-    ∷ row "80 good: received TAB 0:12568 TAB 00000112 TAB 1 TAB 0 TAB 5 LF" (readInto 80) (0 ∷ ascii "received\t0:12568\t00000112\t1\t0\t5\n")
+    ∷ row "80 good: received TAB 0:12568 TAB 00000112 TAB 1 TAB 0 TAB 5 LF" (readInto 80)
+    (0 ∷ ascii "received\t0:12568\t00000112\t1\t0\t5\n")
     ∷ []
 
 -- and so they do of the other cases
 pub others-too : map (λ (r : Row). r .said) others ≡ map (λ (r : Row). r .paper) others
-unfolding others received warning reading-one outcome opened goodShared good formatOf goodReceive goodRing goodTx goodSend modeTakes textSent readMessage beforeEnd endRun
-    byteKind judged judgedData numbersFrom rawOf isFormat idLow idBits carried allBytes Outbox.textSent putRefusal usable possible slotOf store slot ring messageBytes linePrinted messageRefusal
-    headerRefusal messageLine messageText hex hexDigit fields raised holdsFrame kindOf eventOf stored Queue.raised Judged.possible ready raiseRefusal meets unfiltered filtered framePasses idPasses isFilter
-    filterLow dataCompared free fieldMeets byteMeets dataPasses maskBit maskLets queued eventBytes through freeBits letThrough Queue.through throughRefusal run next recordRead Queue.recordRead recordRefusal oldestRefusal isEvent textRead Queue.textRead textRefusal eventIn judgeMessage messageIn isMessage goodMessage eventLine eventText frameText wordOf decimalIn
+unfolding others received warning reading-one outcome opened goodShared good formatOf goodReceive goodRing goodTx
+    goodSend modeTakes textSent readMessage beforeEnd endRun
+    byteKind judged judgedData numbersFrom rawOf isFormat idLow idBits carried allBytes Outbox.textSent putRefusal
+    usable possible slotOf store slot ring messageBytes linePrinted messageRefusal
+    headerRefusal messageLine messageText hex hexDigit fields raised holdsFrame kindOf eventOf stored Queue.raised
+    Judged.possible ready raiseRefusal meets unfiltered filtered framePasses idPasses isFilter
+    filterLow dataCompared free fieldMeets byteMeets dataPasses maskBit maskLets queued eventBytes through freeBits
+    letThrough Queue.through throughRefusal run next recordRead Queue.recordRead recordRefusal oldestRefusal isEvent
+    textRead Queue.textRead textRefusal eventIn judgeMessage messageIn isMessage goodMessage eventLine eventText
+    frameText wordOf decimalIn
 others-too = refl

@@ -33,21 +33,25 @@ use Rattle.promises.specs.Stands.{SoundEvent, SoundMessage}
 -- a sound event's bytes are no damaged slot, and say that event
 pub event-is : (e : Event) → SoundEvent e → (isEvent (eventBytes e) ≡ true) × (eventIn (eventBytes e) ≡ e)
 event-is e s =
-    let b = event-back e (record { code = s .code; low = s .low; high = s .high; lost = s .lost; bytes = s .eight }) (s .whole) in
+    let b = event-back e (record { code = s .code; low = s .low; high = s .high; lost = s .lost; bytes = s .eight })
+    (s .whole) in
     let t : isEvent (eventBytes e) ≡ true = sym (event-good-is (eventBytes e)) ∙ ap (λ j. j .good) b in
     (t, sym (event-as (eventBytes e) t) ∙ ap (λ j. j .event) b)
 
 -- and so a sound message's
 pub message-is : (m : Message) → SoundMessage m → (isMessage (messageBytes m) ≡ true) × (messageIn (messageBytes m) ≡ m)
-message-is m s =
-    (sym (good-is (messageBytes m)) ∙ ap (λ j. j .good) (message-back m (s .eight) (s .whole)), message-in-back m (s .eight) (good-refusal m (s .whole)))
+message-is m s = (
+  sym (good-is (messageBytes m)) ∙ ap (λ j. j .good) (message-back m (s .eight) (s .whole)),
+  message-in-back m (s .eight) (good-refusal m (s .whole)),
+)
 
 -- ---- events
 
 -- a sound event is sound with any lost count of 32 bits
 pub stamped-sound : (e : Event) (n : ℕ) → SoundEvent e → Word n → SoundEvent (stamped e n)
 unfolding goodEvent
-stamped-sound e n f w = record { code = f .code; low = f .low; high = f .high; lost = w; eight = f .eight; whole = f .whole }
+stamped-sound e n f w =
+    record { code = f .code; low = f .low; high = f .high; lost = w; eight = f .eight; whole = f .whole }
 
 -- the event of a code that holds a frame
 abbrev framed : ℕ → ℕ → Message → Event
@@ -93,10 +97,12 @@ module _ (tick : ℕ) (m : Message) (t : Word tick) (eight : length (m .bytes) �
       by : (b : Bool) → holdsFrame code ≡ b → pick b (headerRefusal (m .header)) 0 ≡ 0
           → SoundEvent (pick b (framed code tick m) (record { kind = Other code; low = tick; high = 0; lost = 0; bytes = replicate 8 0 }))
       by true h r = sound-frame code h r
-      by false h r = record { code = w; low = t; high = omega arith; lost = omega arith; eight = refl; whole = unfold goodEvent in rw h }
+      by false h r =
+          record { code = w; low = t; high = omega arith; lost = omega arith; eight = refl; whole = unfold goodEvent in rw h }
 
 -- a sound message in an event of its code
-pub message-event-sound : (tick : ℕ) (m : Message) → Word tick → SoundMessage m → (code : ℕ) → Word code → SoundEvent (eventOf code tick m)
+pub message-event-sound : (tick : ℕ) (m : Message) → Word tick → SoundMessage m → (code : ℕ) → Word code
+    → SoundEvent (eventOf code tick m)
 message-event-sound tick m t s code w =
     event-sound tick m t (s .eight) code w (by (holdsFrame code) (good-refusal m (s .whole)))
   where
@@ -117,16 +123,24 @@ stored-bytes m b =
 pub sent-sound : (s : Shared) (m : Message) → Framed m → binaryRefusal s m ≡ 0 → SoundMessage (sentMessage s m)
 unfolding binaryRefusal
 sent-sound s m f z =
-    by (isFormat (sentFormat s m) && modeTakes (s .mode) (sentFormat s m)) (isBad (rawOf (s .align) (sentFormat s m) (m .header .id)))
+    by (isFormat (sentFormat s m) && modeTakes (s .mode) (sentFormat s m))
+    (isBad (rawOf (s .align) (sentFormat s m) (m .header .id)))
     (leb (m .header .rtr) 1) (leb (m .header .dlc) 15) refl refl refl z
   where
     given : Message
     given = record {
-      header = record { id = idNumber (rawOf (s .align) (sentFormat s m) (m .header .id)); format = sentFormat s m; rtr = m .header .rtr; dlc = m .header .dlc };
+      header =
+          record {
+            id = idNumber (rawOf (s .align) (sentFormat s m) (m .header .id));
+            format = sentFormat s m;
+            rtr = m .header .rtr;
+            dlc = m .header .dlc;
+          };
       bytes = m .bytes;
     }
 
-    by : (a b c e : Bool) → isBad (rawOf (s .align) (sentFormat s m) (m .header .id)) ≡ b → leb (m .header .rtr) 1 ≡ c → leb (m .header .dlc) 15 ≡ e
+    by : (a b c e : Bool) → isBad (rawOf (s .align) (sentFormat s m) (m .header .id)) ≡ b → leb (m .header .rtr) 1 ≡ c
+        → leb (m .header .dlc) 15 ≡ e
         → _≡_ {A = ℕ} (pick a (pick b 8 (pick c (pick e 0 10) 9)) 13) 0 → SoundMessage (stored given)
     by true false true true x y w z =
         let g = raw-good (s .align) (sentFormat s m) (m .header .id) x in

@@ -9,13 +9,15 @@ use Rattle.common.specs.Refusals.{isRefusal}
 use Rattle.inbox.specs.Calls.{looked}
 use Rattle.recorder.specs.State.{good}
 use Rattle.recorder.specs.Outcomes.{Lent, Outcome, ends}
-use Rattle.recorder.specs.Receiving.{modeSet, formatSet, filterSet, eventMaskSet, raised, recordRead, textRead, lookSaid, through}
+use Rattle.recorder.specs.Receiving.{modeSet, formatSet, filterSet, eventMaskSet, raised}
+use Rattle.recorder.specs.Receiving.{recordRead, textRead, lookSaid, through}
 use Rattle.recorder.specs.Sending.{sent, textSent, taken, finished, aborted}
 use Rattle.recorder.specs.Printing.{messageRecordPrinted, eventRecordPrinted, messagePrinted}
 use Rattle.recorder.specs.declared.Device.{Device}
 use Rattle.model.specs.Inbox.{ReceiveCall, readRecord, readText, look, setFilter, setEventMask, identifiersThrough}
 use Rattle.model.specs.Outbox.{SendCall, send, sendText, take, done, abort}
-use Rattle.model.specs.Box.{DeviceCall, raise, setMode, setFormat, PrintCall, printMessageRecord, printEventRecord, printMessage}
+use Rattle.model.specs.Box.{DeviceCall, raise, setMode, setFormat}
+use Rattle.model.specs.Box.{PrintCall, printMessageRecord, printEventRecord, printMessage}
 use Rattle.model.specs.Box.{Call, onDevice, onReceive, onSend, onAlign}
 use Rattle.model.specs.Listed.{listed, beside}
 
@@ -51,7 +53,8 @@ outcome (onReceive x) d l = receiveOutcome x d l
 outcome (onSend x) d l = sendOutcome x d l
 outcome (onAlign x) d l = printOutcome x d l
 
--- demand 1 of an outcome: its number is among ns, and a refusal leaves device and lent bytes and answers zero bytes and the value that stands beside it
+-- demand 1 of an outcome: its number is among ns, and a refusal leaves device and lent bytes and answers zero bytes
+-- and the value that stands beside it
 pub record Harmless (ns : List ℕ) (value : ℕ → ℕ) (d : Device) (l : Lent) (o : Outcome) : Type 0 where
   pub is-listed : among (o .number) ns ≡ true
   pub device-kept : isRefusal (o .number) ≡ true → o .device ≡ d

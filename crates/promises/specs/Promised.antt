@@ -38,7 +38,8 @@ entries (k ∷ ks) (b ∷ bs) = record { place = k .place; bytes = take 12 b ++ 
 abbrev pub lineOf : Outcome → List ℕ
 lineOf o = take (o .value) (o .lent .out)
 
--- the message b, printed by the call x on a device d, its line sent as text to the device e: printed, taken, all text used, and stored behind the newest as the same bytes
+-- the message b, printed by the call x on a device d, its line sent as text to the device e: printed, taken,
+-- all text used, and stored behind the newest as the same bytes
 pub record ReadsBack (x : Call) (b : List ℕ) (d e : Device) (l m : Lent) : Type 0 where
   pub printed : outcome x d l .number ≡ 0
   pub taken : outcome (onSend (sendText (lineOf (outcome x d l)))) e m .number ≡ 0

@@ -1,4 +1,5 @@
--- Sequences of calls from an opening on: each call on the device and the tables that the last one left, and nothing else writes the tables.
+-- Sequences of calls from an opening on: each call on the device and the tables that the last one left,
+-- and nothing else writes the tables.
 use Prim.Native.Nat.{ℕ, _+_}
 use mathlib.Core.List.{List, [], _∷_, _++_}
 use lib.Dec.{eqb}

@@ -34,7 +34,8 @@ abbrev pub All : {A : Type 0} → (A → Type 0) → List A → Type 0
 All P [] = Unit {0}
 All P (x ∷ xs) = P x × All P xs
 
--- a ring of slots of w bytes in the table t has possible numbers, fits in the table, and its slots are the bytes of the entries xs, oldest first
+-- a ring of slots of w bytes in the table t has possible numbers, fits in the table, and its slots are the bytes of
+-- the entries xs, oldest first
 pub record Holds {A : Type 0} (bytes : A → List ℕ) (w limit : ℕ) (r : Ring) (t : List ℕ) (xs : List A) : Type 0 where
   pub numbers : goodRing limit r ≡ true
   pub long : leb (w * r .capacity) (length t) ≡ true

@@ -8,7 +8,8 @@ use Rattle.records.specs.declared.Message.{Message}
 use Rattle.settings.specs.declared.Settings.{Settings}
 use Rattle.model.specs.Inbox.{ReceiveCall, readRecord, readText, look, setFilter, setEventMask, identifiersThrough}
 use Rattle.model.specs.Outbox.{SendCall, send, sendText, take, done, abort}
-use Rattle.model.specs.Box.{DeviceCall, raise, setMode, setFormat, PrintCall, printMessageRecord, printEventRecord, printMessage}
+use Rattle.model.specs.Box.{DeviceCall, raise, setMode, setFormat}
+use Rattle.model.specs.Box.{PrintCall, printMessageRecord, printEventRecord, printMessage}
 use Rattle.model.specs.Box.{Call, onDevice, onReceive, onSend, onAlign, Asked}
 
 -- a 32-bit number

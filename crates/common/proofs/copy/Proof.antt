@@ -10,7 +10,8 @@ use Rattle.common.proofs.copy.Statement.{statement}
 use Rattle.common.proofs.copy.Tie as tie
 
 abbrev Inv-loop : tie.InvT-loop
-Inv-loop dst₀ src i₀ dst i = (i ≤ length src) × (i ≤ length dst₀) × (length dst ≡ length dst₀) × (dst ≡ take i src ++ drop i dst₀)
+Inv-loop dst₀ src i₀ dst i =
+    (i ≤ length src) × (i ≤ length dst₀) × (length dst ≡ length dst₀) × (dst ≡ take i src ++ drop i dst₀)
 
 abbrev μ-loop : tie.MeasureT-loop
 μ-loop dst₀ src i₀ dst i = length src - i

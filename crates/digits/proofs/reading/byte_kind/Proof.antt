@@ -23,10 +23,13 @@ returns-6 : tie.Need-returns-6
 returns-6 c = separator-kind _ (c .before .before .before .match .rest .1) (inr (inl (search needs)))
 
 returns-7 : tie.Need-returns-7
-returns-7 c = separator-kind _ (c .before .before .before .before .before .match .rest .1) (inr (inr (inl (search needs))))
+returns-7 c =
+    separator-kind _ (c .before .before .before .before .before .match .rest .1) (inr (inr (inl (search needs))))
 
 returns-8 : tie.Need-returns-8
-returns-8 c = separator-kind _ (c .before .before .before .before .before .before .match .rest .1) (inr (inr (inr (search needs))))
+returns-8 c =
+    separator-kind _ (c .before .before .before .before .before .before .match .rest .1)
+    (inr (inr (inr (search needs))))
 
 pub byte-kind-spec : {M : Type 1} → statement M
 byte-kind-spec =

@@ -70,7 +70,9 @@ module _ (t : ℕ) where
   same-length-2 c = search needs
 
   returns-2 : tie.Need-returns-2 (below, own.Post) here own.Post
-  returns-2 c = decimal-last (c .before .before .before .before .before .before .args .n) (omega arith) (search needs) (c .before .before .put-decimal .ensures)
+  returns-2 c =
+      decimal-last (c .before .before .before .before .before .before .args .n) (omega arith) (search needs)
+      (c .before .before .put-decimal .ensures)
 
 pub +put-decimal-spec : {M : Type 1} → statement M
 +put-decimal-spec =

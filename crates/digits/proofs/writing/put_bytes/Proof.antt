@@ -37,7 +37,8 @@ returns : tie.Need-returns Inv-loop μ-loop
 returns c =
     let s = c .before .before .before in
     let l = c .before .loop in
-    fields-done (s .args .separator) (s .args .n) (l .i) (s .args .t4) (search needs) (l .inv .0) (l .inv .1) (l .inv .2) (omega arith)
+    fields-done (s .args .separator) (s .args .n) (l .i) (s .args .t4) (search needs) (l .inv .0) (l .inv .1)
+    (l .inv .2) (omega arith)
 
 pub put-bytes-spec : {M : Type 1} → statement M
 put-bytes-spec =

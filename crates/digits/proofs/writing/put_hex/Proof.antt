@@ -10,7 +10,8 @@ use Rattle.digits.proofs.writing.put_hex.Statement.{statement}
 use Rattle.digits.proofs.writing.put_hex.Tie as tie
 
 abbrev Inv-loop : tie.InvT-loop
-Inv-loop out₀ at n w k₀ i₀ out k i = (sets out₀ at (hex w n) ≡ sets out i (hex k n)) × (i + k ≡ at + w) × (length out ≡ length out₀) × (k ≤ w)
+Inv-loop out₀ at n w k₀ i₀ out k i =
+    (sets out₀ at (hex w n) ≡ sets out i (hex k n)) × (i + k ≡ at + w) × (length out ≡ length out₀) × (k ≤ w)
 
 abbrev μ-loop : tie.MeasureT-loop
 μ-loop out₀ at n w k₀ i₀ out k i = k
@@ -21,7 +22,8 @@ loop-holds c = (refl, search needs, refl, search needs)
 loop-again : tie.Need-loop-again Inv-loop μ-loop
 loop-again c =
     let l = c .before .before .loop in (
-      l .inv .0 ∙ hex-step (c .before .before .before .before .args .n) (l .k) (l .out) (l .i) (c .digit .result) (search needs) (c .digit .ensures),
+      l .inv .0 ∙ hex-step (c .before .before .before .before .args .n) (l .k) (l .out) (l .i) (c .digit .result)
+          (search needs) (c .digit .ensures),
       omega arith,
       search needs,
       omega arith,

@@ -11,7 +11,8 @@ use Rattle.digits.proofs.writing.put_text.Statement.{statement}
 use Rattle.digits.proofs.writing.put_text.Tie as tie
 
 abbrev Inv-loop : tie.InvT-loop
-Inv-loop out₀ at text i₀ out i = (sets out₀ at text ≡ sets out (at + i) (drop i text)) × (i ≤ length text) × (length out ≡ length out₀)
+Inv-loop out₀ at text i₀ out i =
+    (sets out₀ at text ≡ sets out (at + i) (drop i text)) × (i ≤ length text) × (length out ≡ length out₀)
 
 abbrev μ-loop : tie.MeasureT-loop
 μ-loop out₀ at text i₀ out i = length text - i

@@ -19,7 +19,8 @@ unfolding messageRefusal
 returns-3 c =
     let n = c .before .before .header-refusal in
     let t = c .before .before .before .before .before in
-    refused (n .result) (c .refuse3 .ensures) (passed 37 _ _ _ (t .before .if1 .left) (t .if2 .left) ∙ sym (n .ensures)) (c .before .if3 .taken)
+    refused (n .result) (c .refuse3 .ensures) (passed 37 _ _ _ (t .before .if1 .left) (t .if2 .left)
+    ∙ sym (n .ensures)) (c .before .if3 .taken)
 
 returns-4 : tie.Need-returns-4
 returns-4 c =
@@ -27,7 +28,8 @@ returns-4 c =
     let n = i .before .before in
     let t = n .before .before .before in
     let s = t .before .before .before .args in
-    absurd (id-not-bad (s .align) (s .m) (t .if2 .left) (sym (n .header-refusal .ensures) ∙ i .before .if3 .left) (i .align-id .ensures) (c .before .enum-told .given .1))
+    absurd (id-not-bad (s .align) (s .m) (t .if2 .left) (sym (n .header-refusal .ensures) ∙ i .before .if3 .left)
+    (i .align-id .ensures) (c .before .enum-told .given .1))
 
 returns-5 : tie.Need-returns-5
 returns-5 c =
@@ -36,7 +38,8 @@ returns-5 c =
     let n = i .before .before in
     let t = n .before .before .before in
     let s = t .before .before .before .args in
-    message-printed (s .align) (s .m) (t .if2 .left) (sym (n .header-refusal .ensures) ∙ i .before .if3 .left) (i .align-id .ensures)
+    message-printed (s .align) (s .m) (t .if2 .left) (sym (n .header-refusal .ensures) ∙ i .before .if3 .left)
+    (i .align-id .ensures)
     (k .id .given .1) (t .before .if1 .left) (c .before .before .put-message .ensures)
 
 pub print-message-spec : {M : Type 1} → statement M

@@ -21,7 +21,8 @@ unfolding messageRecordRefusal
 returns-3 c =
     let j = c .before .before .before in
     let t = j .before in
-    let d = damaged (now (t .before .before .before .before .args .s)) (j .judge-message .result) (j .judge-message .ensures) (c .before .if3 .taken) in
+    let d = damaged (now (t .before .before .before .before .args .s)) (j .judge-message .result)
+    (j .judge-message .ensures) (c .before .if3 .taken) in
     refused 14 (c .refuse3 .ensures) (passed 37 _ _ _ (t .before .if1 .left) (t .if2 .left) ∙ d) (λ z. omega arith)
 
 returns-4 : tie.Need-returns-4
@@ -29,7 +30,8 @@ returns-4 c =
     let h = c .before .before .before .before .before in
     let j = h .before .before in
     let s = j .before .before .before .before .before .args in
-    record-printed (now (s .s)) (j .judge-message .result) (j .judge-message .ensures) (s .align) (h .if3 .left) (c .before .before .print-message .ensures)
+    record-printed (now (s .s)) (j .judge-message .result) (j .judge-message .ensures) (s .align) (h .if3 .left)
+    (c .before .before .print-message .ensures)
 
 pub print-record-spec : {M : Type 1} → statement M
 print-record-spec =

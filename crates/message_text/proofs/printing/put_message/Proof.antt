@@ -21,8 +21,10 @@ put-field-requires-2 c κs =
 put-bytes-requires : tie.Need-put-bytes-requires
 put-bytes-requires c κs =
     let k = c .before .before .before .before .before .before .before .before .before .before .before .before .before in
-    let s = k .before .before .args in
-    (rw (k .carried-by .ensures) (carried-le (s .h)), omega (arith, hex-length 8 (s .id), hex-length 1 (s .h .rtr), hex-length 1 (s .h .dlc), carried-le (s .h)))
+    let s = k .before .before .args in (
+      rw (k .carried-by .ensures) (carried-le (s .h)),
+      omega (arith, hex-length 8 (s .id), hex-length 1 (s .h .rtr), hex-length 1 (s .h .dlc), carried-le (s .h)),
+    )
 
 put-byte-requires : tie.Need-put-byte-requires
 put-byte-requires c κs =
@@ -41,7 +43,8 @@ returns c =
     let r = d .before .before .before .before in
     let i = r .before .before .before .before in
     let t = rw (i .before .before .carried-by .ensures) at (b .put-bytes .ensures) in
-    then (then (then (then (i .put-hex .ensures) (r .put-field .ensures)) (d .put-field2 .ensures)) t) (c .before .before .put-byte .ensures)
+    then (then (then (then (i .put-hex .ensures) (r .put-field .ensures)) (d .put-field2 .ensures)) t)
+    (c .before .before .put-byte .ensures)
 
 pub put-message-spec : {M : Type 1} → statement M
 put-message-spec =

@@ -15,10 +15,14 @@ abbrev μ-loop : tie.MeasureT-loop
 μ-loop at k₀ k = 11 - k
 
 returns : tie.Need-returns Inv-loop μ-loop
-returns c = let l = c .before .before .loop in sym (l .inv .1 ∙ bytes-stop (c .before .before .before .args .t1) (l .k) (omega arith) (c .if1 .taken))
+returns c =
+    let l = c .before .before .loop in
+    sym (l .inv .1 ∙ bytes-stop (c .before .before .before .args .t1) (l .k) (omega arith) (c .if1 .taken))
 
 loop-again : tie.Need-loop-again Inv-loop μ-loop
-loop-again c = let l = c .before .before .loop in (l .inv .0, l .inv .1 ∙ bytes-more (c .before .before .before .args .t1) (l .k) (omega arith) (c .if1 .left))
+loop-again c =
+    let l = c .before .before .loop in
+    (l .inv .0, l .inv .1 ∙ bytes-more (c .before .before .before .args .t1) (l .k) (omega arith) (c .if1 .left))
 
 returns-2 : tie.Need-returns-2 Inv-loop μ-loop
 returns-2 c = let l = c .before .loop in sym (l .inv .1 ∙ bytes-last (c .before .before .args .t1) (l .k) (omega arith))

@@ -19,11 +19,18 @@ loop-holds c = (search needs, search needs, refl, refl)
 loop-again : tie.Need-loop-again Inv-loop μ-loop
 loop-again c =
     let l = c .before .loop in
-    let a = c .before .before .args in
-    (search needs, l .inv .1, search needs, rw (l .inv .3) (data-more (a .t1) (l .k) (l .inv .1) (omega arith) (c .before .before .pre .1)))
+    let a = c .before .before .args in (
+      search needs,
+      l .inv .1,
+      search needs,
+      rw (l .inv .3)
+          (data-more (a .t1) (l .k) (l .inv .1) (omega arith) (c .before .before .pre .1)),
+    )
 
 returns : tie.Need-returns Inv-loop μ-loop
-returns c = let l = c .before .loop in l .inv .3 ∙ data-done (c .before .before .args .t1) (c .before .before .args .n) (l .k) (l .inv .0) (omega arith)
+returns c =
+    let l = c .before .loop in
+    l .inv .3 ∙ data-done (c .before .before .args .t1) (c .before .before .args .n) (l .k) (l .inv .0) (omega arith)
 
 pub data-bytes-spec : {M : Type 1} → statement M
 data-bytes-spec =

@@ -18,20 +18,35 @@ returns-2 c =
 returns-3 : tie.Need-returns-3
 unfolding judged
 returns-3 c =
-    let e = sym (c .before .before .before .before .before .raw-of .ensures) ∙ c .before .before .before .id .given .1 in
+    let e = sym (c .before .before .before .before .before .raw-of .ensures)
+    ∙ c .before .before .before .id .given .1 in
     rw (c .refuse3 .ensures, le-ltb _ _ (c .before .before .before .before .before .before .if1 .left), e, lt-ltb _ _ (c .before .if2 .taken))
 
 returns-4 : tie.Need-returns-4
 unfolding judged
 returns-4 c =
-    let e = sym (c .before .before .before .before .before .before .raw-of .ensures) ∙ c .before .before .before .before .id .given .1 in
-    rw (c .refuse4 .ensures, le-ltb _ _ (c .before .before .before .before .before .before .before .if1 .left), e, le-ltb _ _ (c .before .before .if2 .left), lt-ltb _ _ (c .before .if3 .taken))
+    let e = sym (c .before .before .before .before .before .before .raw-of .ensures)
+    ∙ c .before .before .before .before .id .given .1 in
+    rw (
+      c .refuse4 .ensures,
+      le-ltb _ _ (c .before .before .before .before .before .before .before .if1 .left),
+      e,
+      le-ltb _ _ (c .before .before .if2 .left),
+      lt-ltb _ _ (c .before .if3 .taken),
+    )
 
 returns-5 : tie.Need-returns-5
 unfolding judged
 returns-5 c =
-    let e = sym (c .before .before .before .before .before .before .raw-of .ensures) ∙ c .before .before .before .before .id .given .1 in
-    rw (c .judge-data .ensures, le-ltb _ _ (c .before .before .before .before .before .before .before .if1 .left), e, le-ltb _ _ (c .before .before .if2 .left), le-ltb _ _ (c .before .if3 .left))
+    let e = sym (c .before .before .before .before .before .before .raw-of .ensures)
+    ∙ c .before .before .before .before .id .given .1 in
+    rw (
+      c .judge-data .ensures,
+      le-ltb _ _ (c .before .before .before .before .before .before .before .if1 .left),
+      e,
+      le-ltb _ _ (c .before .before .if2 .left),
+      le-ltb _ _ (c .before .if3 .left),
+    )
 
 pub judge-spec : {M : Type 1} → statement M
 judge-spec =

@@ -16,7 +16,13 @@ returns c =
 
 returns-2 : tie.Need-returns-2
 unfolding judgedData
-returns-2 c = rw (c .refuse2 .ensures, ← c .before .before .before .carried-by .ensures, le-ltb _ _ (c .before .before .if1 .left), lt-ltb _ _ (c .before .if2 .taken))
+returns-2 c =
+    rw (
+      c .refuse2 .ensures,
+      ← c .before .before .before .carried-by .ensures,
+      le-ltb _ _ (c .before .before .if1 .left),
+      lt-ltb _ _ (c .before .if2 .taken),
+    )
 
 returns-3 : tie.Need-returns-3
 unfolding judgedData

@@ -24,7 +24,8 @@ returns-2 c =
     let s = c .before .before .before .before .before .scan in
     let used = c .before .before .after-ends in
     let e = c .before .before .before .before .first-end .ensures ∙ sym (s .ensures .clear) in
-    text-judged (a .align) (a .format) (now (a .text)) _ (used .result) (omega arith) (s .ensures .kept) (used .ensures ∙ rw e) (c .judge .ensures)
+    text-judged (a .align) (a .format) (now (a .text)) _ (used .result) (omega arith) (s .ensures .kept)
+    (used .ensures ∙ rw e) (c .judge .ensures)
 
 pub read-message-spec : {M : Type 1} → statement M
 read-message-spec =

@@ -17,16 +17,18 @@ abbrev μ-loop : tie.MeasureT-loop
 
 loop-again : tie.Need-loop-again Inv-loop μ-loop
 loop-again c =
-    let k = c .before .byte-kind in
-    omega (arith, run-more (now (c .before .before .before .before .before .before .args .text)) (c .before .before .before .before .loop .i) (omega arith) (k .ensures) (c .if1 .left))
+    let s = c .before .before .before .before in
+    let k = c .before .byte-kind .ensures in
+    omega (arith, run-more (now (s .before .before .args .text)) (s .loop .i) (omega arith) k (c .if1 .left))
 
 returns : tie.Need-returns Inv-loop μ-loop
 returns c = omega (arith, run-last (now (c .before .before .before .args .text)) (c .before .loop .i) (omega arith))
 
 returns-2 : tie.Need-returns-2 Inv-loop μ-loop
 returns-2 c =
-    let k = c .before .byte-kind in
-    omega (arith, run-stop (now (c .before .before .before .before .before .before .args .text)) (c .before .before .before .before .loop .i) (omega arith) (k .ensures) (c .if1 .taken))
+    let s = c .before .before .before .before in
+    let k = c .before .byte-kind .ensures in
+    omega (arith, run-stop (now (s .before .before .args .text)) (s .loop .i) (omega arith) k (c .if1 .taken))
 
 pub after-ends-spec : {M : Type 1} → statement M
 after-ends-spec =

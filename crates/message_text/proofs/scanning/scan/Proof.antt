@@ -7,7 +7,8 @@ use denote.Ref.{now}
 use lib.ListN.{length}
 use Rattle.message_text.specs.Numbers.{between, within}
 use Rattle.message_text.specs.Scan.{kept, keptMore}
-use Rattle.message_text.proofs.Keeping.{Going, start, digit, separator, cut, whole-last, whole-end, whole-separator, met-last, met-end, met-full}
+use Rattle.message_text.proofs.Keeping.{Going, start, digit, separator, cut, whole-last}
+use Rattle.message_text.proofs.Keeping.{whole-end, whole-separator, met-last, met-end, met-full}
 use Rattle.message_text.proofs.scanning.scan.Statement.{statement}
 use Rattle.message_text.proofs.scanning.scan.Tie as tie
 
@@ -32,8 +33,12 @@ shared-slice-read-byte-kind c = search needs
 
 digits-holds : tie.Need-digits-holds Inv-digits μ-digits Inv-numbers μ-numbers
 digits-holds c =
-    let k = c .before .before .byte-kind in
-    (digit (c .before .before .before .before .before .numbers .inv .0) (omega arith) (k .ensures) (c .if2 .taken), search needs, search needs, search needs)
+    let k = c .before .before .byte-kind in (
+      digit (c .before .before .before .before .before .numbers .inv .0) (omega arith) (k .ensures) (c .if2 .taken),
+      search needs,
+      search needs,
+      search needs,
+    )
 
 shared-slice-read-byte-kind-2 :
     tie.Need-shared-slice-read-byte-kind-2 Inv-digits μ-digits Inv-numbers μ-numbers
@@ -44,8 +49,13 @@ keep-requires c κs = c .before .before .before .before .before .digits .inv .0 
 
 digits-again : tie.Need-digits-again Inv-digits μ-digits Inv-numbers μ-numbers
 digits-again c =
-    let k = c .before .before .before in
-    (cut (digit (k .before .before .before .digits .inv .0) (omega arith) (k .byte-kind2 .ensures) (omega arith)) (c .with-digit .ensures), search needs, search needs, search needs)
+    let k = c .before .before .before in (
+      cut (digit (k .before .before .before .digits .inv .0) (omega arith) (k .byte-kind2 .ensures) (omega arith))
+          (c .with-digit .ensures),
+      search needs,
+      search needs,
+      search needs,
+    )
 
 -- where the loop over the digits is left, the number is whole, behind the last byte or behind a separator
 left :
@@ -57,7 +67,11 @@ left c =
     let s = c .before .digits in
     ⊎-elim
     (λ w. (omega arith, rw (w .1) (whole-last (s .inv .0) (s .inv .3) (s .inv .2) (omega arith))))
-    (λ w. (omega arith, rw (w .5) (whole-separator (s .inv .0) (s .inv .3) (s .inv .2) (omega arith) (w .2 .ensures) (w .3 .left) (omega arith))))
+    (λ w. (
+      omega arith,
+      rw (w .5) (whole-separator (s .inv .0) (s .inv .3) (s .inv .2) (omega arith) (w .2 .ensures)
+          (w .3 .left) (omega arith)),
+    ))
     (c .digits-test .came)
 
 keep-requires-2 : tie.Need-keep-requires-2 Inv-digits μ-digits Inv-numbers μ-numbers
@@ -67,18 +81,25 @@ numbers-less : tie.Need-numbers-less Inv-digits μ-digits Inv-numbers μ-numbers
 numbers-less c = let l = left (c .before .before .before) in omega (arith, l .0, l .1 .inside)
 
 numbers-again : tie.Need-numbers-again Inv-digits μ-digits Inv-numbers μ-numbers
-numbers-again c = let e = c .before .keep2 .ensures in (rw e (left (c .before .before .before) .1), omega (arith, ap (λ k. k .count) e))
+numbers-again c =
+    let e = c .before .keep2 .ensures in
+    (rw e (left (c .before .before .before) .1), omega (arith, ap (λ k. k .count) e))
 
 numbers-again-2 : tie.Need-numbers-again-2 Inv-digits μ-digits Inv-numbers μ-numbers
 numbers-again-2 c =
-    let k = c .before .before .byte-kind in
-    (separator (c .before .before .before .before .before .numbers .inv .0) (omega arith) (k .ensures) (c .before .if1 .left) (omega arith), search needs)
+    let k = c .before .before .byte-kind in (
+      separator (c .before .before .before .before .before .numbers .inv .0) (omega arith) (k .ensures)
+          (c .before .if1 .left) (omega arith),
+      search needs,
+    )
 
 returns : tie.Need-returns Inv-digits μ-digits Inv-numbers μ-numbers
 returns c = met-last (c .before .numbers .inv .0) (omega arith)
 
 returns-2 : tie.Need-returns-2 Inv-digits μ-digits Inv-numbers μ-numbers
-returns-2 c = met-end (c .before .before .before .before .numbers .inv .0) (omega arith) (c .before .byte-kind .ensures) (c .if1 .taken)
+returns-2 c =
+    met-end (c .before .before .before .before .numbers .inv .0) (omega arith) (c .before .byte-kind .ensures)
+    (c .if1 .taken)
 
 returns-3 : tie.Need-returns-3 Inv-digits μ-digits Inv-numbers μ-numbers
 returns-3 c =
@@ -86,7 +107,8 @@ returns-3 c =
     let s = b .before .before .before .before .digits in
     let k = b .before .byte-kind2 in
     let e = b .if3 .taken in
-    rw (c .keep .ensures) (met-end (whole-end (s .inv .0) (s .inv .3) (s .inv .2) (omega arith) (k .ensures) e) (omega arith) (k .ensures) e)
+    rw (c .keep .ensures) (met-end (whole-end (s .inv .0) (s .inv .3) (s .inv .2) (omega arith) (k .ensures) e)
+    (omega arith) (k .ensures) e)
 
 returns-4 : tie.Need-returns-4 Inv-digits μ-digits Inv-numbers μ-numbers
 returns-4 c = met-full (rw (c .before .keep2 .ensures) (left (c .before .before .before) .1)) (c .if5 .taken)
