@@ -7,6 +7,7 @@ use native.Mathlib.Numerals.{add-one}
 use native.Mathlib.Omega.{arith}
 use lib.ListN.{length, getD, set, take, drop, drop-of-length-le}
 use lib.Seq.{take-all, slice, slice-cons, slice-empty}
+use Rattle.common.specs.Numbers.{numberOf}
 
 -- a turn of the loop that copies from the front
 copy-suc : (i : ℕ) (s d : List ℕ) → i < length s → i < length d
@@ -55,3 +56,13 @@ reads-slice l f (suc n) h =
 -- all of them are l
 pub reads-all : (l : List ℕ) (n : ℕ) → length l ≡ n → reads l 0 n ≡ l
 reads-all l n e = reads-slice l 0 n (omega arith) ∙ take-all (0 + n) l (omega arith)
+
+-- a number read byte by byte
+pub number-read : (s : List ℕ) (at n : ℕ) → at + 4 ≤ length s
+    → n ≡ numberOf (getD s at 0 ∷ getD s (at + 1) 0 ∷ getD s (at + 2) 0 ∷ getD s (at + 3) 0 ∷ [])
+    → n ≡ numberOf (slice at (at + 4) s)
+number-read s at n h e =
+    let e1 : at + 1 ≡ suc at = omega arith in
+    let e2 : at + 2 ≡ suc (suc at) = omega arith in
+    let e3 : at + 3 ≡ suc (suc (suc at)) = omega arith in
+    (rw (e1, e2, e3) at e) ∙ ap numberOf (reads-slice s at 4 h)

@@ -4,16 +4,16 @@ use mathlib.Core.List.{List, [], _∷_, _++_, append-nil, append-assoc}
 use mathlib.Core.Bool.{Bool, true, false}
 use Prim.Native.Nat.{ℕ, suc, _+_, _-_, _≤_}
 use native.Mathlib.Omega.{arith}
-use lib.ListN.{length, getD, set, take, drop, length-append, length-drop, drop-of-length-le}
+use lib.ListN.{length, set, take, drop, length-append, length-drop, drop-of-length-le}
 use lib.Seq.{sets, sets-eq, length-sets, slice, take-all, take-add, drop-at, drop-drop, length-take-le, length-slice}
 use lib.Dec.{leb, eqb}
 use borrow.Author.Tests.{eqb-true, eq-eqb, ne-eqb}
 use mir.Val.{boolByte}
 use Rattle.common.specs.Choice.{pick}
-use Rattle.common.specs.Numbers.{Bytes, bytesOf, numberOf}
+use Rattle.common.specs.Numbers.{Bytes, bytesOf}
 use Rattle.common.specs.Refusals.{isRefusal}
 use Rattle.common.proofs.Bools.{and-left}
-use Rattle.common.proofs.Lists.{reads-slice, copy-fills}
+use Rattle.common.proofs.Lists.{copy-fills}
 use Rattle.digits.proofs.Written.{sets-append}
 use Rattle.records.specs.declared.Message.{Message}
 use Rattle.channels.specs.declared.Send.{Send}
@@ -25,16 +25,6 @@ use Rattle.kept.specs.Handing.{left}
 use Rattle.kept.proofs.RoundTrip.{state-back}
 
 -- ---- reading
-
--- a number read byte by byte
-pub word-read : (s : List ℕ) (at n : ℕ) → at + 4 ≤ length s
-    → n ≡ numberOf (getD s at 0 ∷ getD s (at + 1) 0 ∷ getD s (at + 2) 0 ∷ getD s (at + 3) 0 ∷ []) → n ≡ word s at
-unfolding word
-word-read s at n h e =
-    let e1 : at + 1 ≡ suc at = omega arith in
-    let e2 : at + 2 ≡ suc (suc at) = omega arith in
-    let e3 : at + 3 ≡ suc (suc (suc at)) = omega arith in
-    (rw (e1, e2, e3) at e) ∙ ap numberOf (reads-slice s at 4 h)
 
 -- a part copied over a list as long
 pub part-read : (s z : List ℕ) (at : ℕ) {out : List ℕ} → at + length z ≤ length s

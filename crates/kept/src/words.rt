@@ -12,7 +12,7 @@ pub fn word(s: &[u8], at: usize) -> u32
     requires { ⌜ at + 4 ≤ length (now s) ⌝ }
     ensures { λ r. ⌜ r ≡ word (now (s .entry)) at ⌝ }
 {
-    common::number_of(s[at], s[at + 1], s[at + 2], s[at + 3])
+    common::number_at(s, at)
 }
 
 // Writes a number from `at` on.

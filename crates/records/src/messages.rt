@@ -80,7 +80,7 @@ fn message_in(s: &[u8]) -> Message
     requires { ⌜ length (now s) ≡ 16 ⌝ }
     ensures { λ r. ⌜ r ≡ messageIn (now (s .entry)) ⌝ }
 {
-    let id = common::number_of(s[0], s[1], s[2], s[3]);
+    let id = common::number_at(s, 0);
     let h = Header {
         id: id,
         format: s[4] as u32,
