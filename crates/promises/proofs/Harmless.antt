@@ -10,6 +10,7 @@ use Rattle.common.specs.Choice.{pick}
 use Rattle.common.specs.Numbers.{among}
 use Rattle.common.proofs.Choices.{pick-is}
 use Rattle.common.proofs.Bools.{apart, denied}
+use Rattle.common.proofs.Numbers.{zeros-zero}
 use Rattle.ids.specs.Ids.{isFormat}
 use Rattle.ids.specs.Filters.{letThrough}
 use Rattle.ids.specs.EventMask.{maskLets, isMask}
@@ -66,9 +67,18 @@ module _ (ns : List ℕ) (d : Device) (l : Lent) where
   abbrev H : Outcome → Type 0
   H o = Harmless ns (λ n. 0) d l o
 
+  -- a refusal beside k zero bytes
+  refused-bytes : (n k : ℕ) → among n ns ≡ true → H (ends n 0 (replicate k 0) d l)
+  refused-bytes n k h = record {
+    is-listed = h;
+    device-kept = λ e. refl;
+    bytes-kept = λ e. refl;
+    zero-bytes = λ e. zeros-zero k;
+    value-is = λ e. refl;
+  }
+
   refused : (n : ℕ) → among n ns ≡ true → H (refuses n d l)
-  refused n h =
-      record { is-listed = h; device-kept = λ e. refl; bytes-kept = λ e. refl; zero-bytes = λ e. refl; value-is = λ e. refl }
+  refused n h = refused-bytes n 0 h
 
   no-refusal : (o : Outcome) → among (o .number) ns ≡ true → isRefusal (o .number) ≡ false → H o
   no-refusal o h z = record {
@@ -187,8 +197,7 @@ module _ (d : Device) (l : Lent) where
       (both (Other ns) (ready (d .shared) (d .receive) (length (l .queue))) (oldestRefusal (d .receive) (l .queue)) 2
       (oldest-number ns refl refl) (λ e. refl))
       (succeeds ns d l _ _ _ _ refl)
-      (λ e. record { is-listed = e; device-kept = λ x. refl; bytes-kept = λ x. refl; zero-bytes = λ x. refl; value-is = λ x. refl }))
-      (record { is-listed = refl; device-kept = λ x. refl; bytes-kept = λ x. refl; zero-bytes = λ x. refl; value-is = λ x. refl })
+      (λ e. refused-bytes ns d l _ eventSize e)) (refused-bytes ns d l 2 eventSize refl)
 
   changed-fine : (s : Shared) (tick : ℕ) → H (2 ∷ 1 ∷ 0 ∷ []) d l (changed s tick d l)
   unfolding changed
@@ -255,11 +264,6 @@ module _ (d : Device) (l : Lent) where
       (succeeds ns d l _ _ _ _ refl) (λ e. refused ns d l _ (listed e)))
       (refused ns d l 2 refl)
 
-  -- a refusal that answers zero bytes
-  refused-bytes : (ns : List ℕ) (n : ℕ) → among n ns ≡ true → H ns d l (ends n 0 (replicate messageSize 0) d l)
-  refused-bytes ns n h =
-      record { is-listed = h; device-kept = λ x. refl; bytes-kept = λ x. refl; zero-bytes = λ x. refl; value-is = λ x. refl }
-
   take-number : Other (2 ∷ 5 ∷ 4 ∷ 14 ∷ 0 ∷ []) (takeRefusal (d .shared) (d .send) (l .send))
   unfolding takeRefusal waitRefusal
   take-number =
@@ -277,8 +281,8 @@ module _ (d : Device) (l : Lent) where
       both (H ns d l) (usable (d .receive) (l .queue)) _ _
       (by-settled (λ w. H ns d l (carrying w d l)) (takeRefusal (d .shared) (d .send) (l .send)) 0 _ _
       (succeeds ns d l _ _ _ _ refl)
-      (λ e. refused-bytes ns _ (take-number e)))
-      (refused-bytes ns 2 refl)
+      (λ e. refused-bytes ns d l _ messageSize (take-number e)))
+      (refused-bytes ns d l 2 messageSize refl)
 
   done-fine : (tick : ℕ) → H (listedSend (done tick)) d l (finished tick d l)
   unfolding finished Wire.finished doneRefusal carried
