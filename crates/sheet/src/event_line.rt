@@ -11,25 +11,38 @@ fn write_room(said: &[u8], number: u32) {
     show::write_text(b"\n");
 }
 
-fn read(d: Device, queue: &[u8]) {
-    let mut short = [0u8; 79];
-    let refused = receiving::read_text(d, queue, &mut short);
-    write_room(b"Room 79 refused", refused.number);
-    let mut room = [0u8; 80];
-    let good = receiving::read_text(refused.device, queue, &mut room);
-    write_room(b"80 good", good.number);
-    show::words::says(b"`received` TAB `0:12568` TAB `00000112` TAB `1` TAB `0` TAB `5` LF");
-    show::write_front(&room, good.value);
+fn read_short(d: Device, queue: &[u8]) -> Device {
+    let mut room = [0u8; 79];
+    let r = receiving::read_text(d, queue, &mut room);
+    write_room(b"Room 79 refused", r.number);
+    r.device
 }
 
-// One event kept and five lost, so that the event behind them has lost 5.
-fn line(queue: &mut [u8]) {
-    let opened = queueing::open(queue);
-    let full = queueing::raise_all(opened, b"123456", queue);
-    let r = receiving::read_record(full, queue);
+// Reads into a room and answers the length.
+fn read(d: Device, said: &[u8], queue: &[u8], room: &mut [u8]) -> usize {
+    let r = receiving::read_text(d, queue, room);
+    write_room(said, r.number);
+    r.value
+}
+
+fn read_whole(d: Device, queue: &[u8]) {
+    let mut room = [0u8; 80];
+    let length = read(d, b"80 good", queue, &mut room);
+    show::words::says(b"`received` TAB `0:12568` TAB `00000112` TAB `1` TAB `0` TAB `5` LF");
+    show::write_front(&room, length);
+}
+
+// The event behind one that was kept and five that were lost, so that it has lost 5.
+fn raise(queue: &mut [u8]) -> Device {
+    let emptied = queueing::play(b"123456-", false, queue);
     let m = setting::frame(0x112, 1, 0, 0, 0);
-    let raised = receiving::raise(r.device, 1, 12568, m, queue);
-    read(raised.device, queue);
+    setting::receive(emptied, 12568, m, queue)
+}
+
+fn line(queue: &mut [u8]) {
+    let raised = raise(queue);
+    let refused = read_short(raised, queue);
+    read_whole(refused, queue);
 }
 
 pub fn cases() {

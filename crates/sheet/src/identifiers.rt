@@ -1,53 +1,64 @@
 // Identifiers under an Align, the filter, and the identifiers that it lets through.
 use crate::setting;
+use digits::Printed;
+use recorder::Through;
 use recorder::printing;
 use recorder::receiving;
 
-// The line of raw identifier 731.
+// Prints raw identifier 731.
+fn print(align: u32, out: &mut [u8]) -> Printed {
+    let d = setting::receiver(align, 0, 0, &[0u8; 32]);
+    let m = setting::frame(0x731, 0, 0, 0, 0);
+    printing::print_message(d, m, out)
+}
+
 fn shown(said: &[u8], align: u32) {
     show::words::says(said);
-    let queue = [0u8; 32];
-    let send = [0u8; 16];
-    let d = setting::open(align, 0, 0, &queue, &send);
     let mut out = [0u8; 37];
-    let m = setting::frame(0x731, 0, 0, 0, 0);
-    let printed = printing::print_message(d, m, &mut out);
+    let printed = print(align, &mut out);
     if printed.number != 0 {
-        show::write_line(show::refused_line(printed.number, 0));
+        show::write_refused(printed.number, 0);
         return;
     }
     show::write_front(&out, printed.length);
 }
 
-// Frame 200 raised as received.
-fn met(said: &[u8], dlc: u32, first: u8) {
-    show::words::says(said);
-    let mut queue = [0u8; 32];
-    let send = [0u8; 16];
-    let d = setting::open(0, 0x40000100, 0x000000FF, &queue, &send);
+// Raises frame 200 as received.
+fn raise(dlc: u32, first: u8, queue: &mut [u8]) -> u32 {
+    let d = setting::receiver(0, 0x40000100, 0x000000FF, queue);
     let m = setting::frame(0x200, 0, dlc, first, 7);
-    let raised = receiving::raise(d, 1, 0, m, &mut queue);
-    show::words::write_raised(raised.number);
+    let raised = receiving::raise(d, 1, 0, m, queue);
+    raised.number
 }
 
-// The standard identifiers let through at Align 1.
+fn met(said: &[u8], dlc: u32, first: u8) {
+    show::words::says(said);
+    show::words::write_raised(raise(dlc, first, &mut [0u8; 32]));
+}
+
+// Counts the standard identifiers let through at Align 1.
+fn count(code: u32, mask: u32) -> Through {
+    let d = setting::receiver(1, code, mask, &[0u8; 32]);
+    receiving::identifiers_through(d, 1)
+}
+
 fn through(said: &[u8], code: u32, mask: u32) {
     show::words::says(said);
-    let queue = [0u8; 32];
-    let send = [0u8; 16];
-    let d = setting::open(1, code, mask, &queue, &send);
-    let counted = receiving::identifiers_through(d, 1);
+    let counted = count(code, mask);
     if counted.number != 0 {
-        show::write_line(show::refused_line(counted.number, 0));
+        show::write_refused(counted.number, 0);
         return;
     }
     show::write_number(counted.count);
     show::write_text(b"\n");
 }
 
-pub fn cases() {
+fn aligned() {
     shown(b"P raw 731 shows as 1CC40000 at Align 2", 2);
     shown(b"P E6200000 at Align 3", 3);
+}
+
+fn filtered() {
     met(
         b"P code 40000100, mask 000000FF: frame 200 with 01 07 passes",
         2,
@@ -55,6 +66,11 @@ pub fn cases() {
     );
     met(b"P with 02 07 it doesn't", 2, 2);
     met(b"with dlc 0 it passes", 0, 2);
+}
+
+pub fn cases() {
+    aligned();
+    filtered();
     through(
         b"P Align 1, code 400, mask 3FF: 1,024 identifiers",
         0x400,

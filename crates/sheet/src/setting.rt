@@ -1,6 +1,7 @@
 // The device of a case, and its frames.
 use ids::Header;
 use recorder::Device;
+use recorder::receiving;
 use records::Message;
 use settings::Settings;
 
@@ -27,6 +28,12 @@ pub fn open(align: u32, code: u32, mask: u32, queue: &[u8], send: &[u8]) -> Devi
     opened.device
 }
 
+// A device of a case that sends nothing.
+pub fn receiver(align: u32, code: u32, mask: u32, queue: &[u8]) -> Device {
+    let send = [0u8; 16];
+    open(align, code, mask, queue, &send)
+}
+
 // A standard frame that holds two bytes.
 pub fn frame(id: u32, rtr: u32, dlc: u32, first: u8, second: u8) -> Message {
     let h = Header {
@@ -40,4 +47,10 @@ pub fn frame(id: u32, rtr: u32, dlc: u32, first: u8, second: u8) -> Message {
         header: h,
         bytes: b,
     }
+}
+
+// The device after a received frame.
+pub fn receive(d: Device, tick: u32, m: Message, queue: &mut [u8]) -> Device {
+    let raised = receiving::raise(d, 1, tick, m, queue);
+    raised.device
 }

@@ -78,6 +78,11 @@ pub fn write_line(line: Line) {
     write_front(&b, line.length);
 }
 
+// Writes the line of a refusal.
+pub fn write_refused(number: u32, used: u32) {
+    write_line(refused_line(number, used));
+}
+
 // Writes a number in decimal.
 pub fn write_number(n: u32) {
     let mut line = [0u8; 10];

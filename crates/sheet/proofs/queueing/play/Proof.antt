@@ -2,21 +2,22 @@ use Prim.Native.Nat.{_≤_, _-_}
 use mathlib.Core.Path.{_≡_}
 use borrow.Author.Needs.{needs}
 use lib.ListN.{length}
-use Rattle.sheet.proofs.queueing.raise_all.Statement.{statement}
-use Rattle.sheet.proofs.queueing.raise_all.Tie as tie
+use Rattle.sheet.proofs.queueing.play.Statement.{statement}
+use Rattle.sheet.proofs.queueing.play.Tie as tie
 
 abbrev Inv-loop : tie.InvT-loop
-Inv-loop names queue₀ d₀ i₀ queue d i = (i ≤ length names) × (length queue ≡ length queue₀)
+Inv-loop script lost queue₀ d₀ i₀ queue d i = (i ≤ length script) × (length queue ≡ length queue₀)
 
 abbrev μ-loop : tie.MeasureT-loop
-μ-loop names queue₀ d₀ i₀ queue d i = length names - i
+μ-loop script lost queue₀ d₀ i₀ queue d i = length script - i
 
-pub raise-all-spec : {M : Type 1} → statement M
-raise-all-spec =
+pub play-spec : {M : Type 1} → statement M
+play-spec =
     tie.close
     (tie.spec
     Inv-loop
     μ-loop
+    (λ c κs. search needs)
     (λ c. search needs)
     (λ c. search needs)
     (λ c κs. search needs)
