@@ -264,7 +264,8 @@ module _ (s : List ℕ) (h : isPossible s ≡ true) {d : Device} (e : d ≡ devi
       let left = counted-left s e (withReceive d (met .receive)) moves (ap (λ (r : Receive). r .ring .count) built-is)
       (ap (λ (r : Receive). r .pending) built-is) w in
       settled x s l (possible-state s h) e (g .number ∙ sym (ap (λ (o : Outcome). o .number) able)) (sym device)
-      (ap (λ (t : List ℕ). lends t [] []) (g .table) ∙ sym (ap (λ (o : Outcome). lends (o .lent .queue) [] []) able)) left
+      (ap (λ (t : List ℕ). lends t [] []) (g .table) ∙ sym (ap (λ (o : Outcome). lends (o .lent .queue) [] []) able))
+      left
 
 -- a look answers 0, 2 or 4
 look-numbers : (P : ℕ → Type 0) (p : ℕ) (d : Device) (t : List ℕ) → P 0 → P 2 → P 4 → P (lookSaid p d (lends t [] []))

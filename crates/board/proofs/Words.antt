@@ -119,7 +119,8 @@ device-words : (d : Device) (q t : List ℕ) (b : Box) → Stands d q t b → Al
 device-words d q t b h =
     all-append Word (sharedNumbers (d .shared)) (receiveNumbers (d .receive) ++ sendNumbers (d .send))
     (shared-words (d .shared) (h .possible))
-    (all-append Word (receiveNumbers (d .receive)) (sendNumbers (d .send)) (receive-words (d .receive) q (b .inbox) (h .inbox))
+    (all-append Word (receiveNumbers (d .receive)) (sendNumbers (d .send))
+    (receive-words (d .receive) q (b .inbox) (h .inbox))
     (send-words (d .send) t (b .outbox) (h .outbox)))
 
 -- the bytes of such a device are a state

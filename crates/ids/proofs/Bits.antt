@@ -29,7 +29,8 @@ bit-is n k = is-bit (bit n k) (omega arith)
 -- ---- the bits of x & y, x ^ y, x >> low and 2^n - 1
 
 -- an operation that works on each bit apart
-bit-op : (op f : ℕ → ℕ → ℕ) → ((a b k : ℕ) → op a b / 2 ^ k ≡ op (a / 2 ^ k) (b / 2 ^ k)) → ((a b : ℕ) → op a b ≡ op (a / 2) (b / 2) * 2 + f (a % 2) (b % 2))
+bit-op : (op f : ℕ → ℕ → ℕ) → ((a b k : ℕ) → op a b / 2 ^ k ≡ op (a / 2 ^ k) (b / 2 ^ k))
+    → ((a b : ℕ) → op a b ≡ op (a / 2) (b / 2) * 2 + f (a % 2) (b % 2))
     → (x y k : ℕ) → f (bit x k) (bit y k) < 2 → bit (op x y) k ≡ f (bit x k) (bit y k)
 bit-op op f shr step x y k h =
     ap (λ (n : ℕ). n % 2) (shr x y k ∙ step (x / 2 ^ k) (y / 2 ^ k)) ∙ digits-mod (op (x / 2 ^ k / 2) (y / 2 ^ k / 2)) h

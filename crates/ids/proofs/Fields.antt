@@ -1,4 +1,5 @@
--- Fields of a filter word: each lies within 32 bits, the code's test of one is the definition's, and so is its count of the free bits.
+-- Fields of a filter word: each lies within 32 bits, the code's test of one is the definition's, and so is its count
+-- of the free bits.
 use mathlib.Core.Path.{_≡_, refl, ap, ap₂, _∙_}
 use mathlib.Core.List.{List, [], _∷_}
 use mathlib.Core.Bool.{Bool, true, false, not, _&&_, _||_}
@@ -15,7 +16,8 @@ use Rattle.common.proofs.Bools.{and-left, and-right}
 use Rattle.ids.specs.Ids.{bit, idBits, idLow}
 use Rattle.ids.specs.Filters.{isFilter, filterLow, free, fieldMeets, freeBits}
 use Rattle.ids.specs.declared.Filter.{Filter}
-use Rattle.ids.proofs.Bits.{Bit, off, on, is-bit, bit-is, bit-and, bit-xor, bit-shr, bit-ones, zero-suc, ones-suc}
+use Rattle.ids.proofs.Bits.{Bit, off, on, is-bit, bit-is, bit-and, bit-xor, bit-shr, bit-ones, zero-suc}
+use Rattle.ids.proofs.Bits.{ones-suc}
 
 -- a bound of a choice is one of what is chosen
 pub pick-le : (t : Bool) {a b m : ℕ} → (t ≡ true → a ≤ m) → b ≤ m → pick t a b ≤ m
@@ -43,7 +45,8 @@ entry m (x ∷ xs) zero h = leb-true x m (and-left (leb x m) (atMost m xs) h)
 entry m (x ∷ xs) (suc i) h = entry m xs i (and-right (leb x m) (atMost m xs) h)
 
 -- a column for standard frames with no entry above 21, and one for extended frames with none above 3
-in-word : (s e : List ℕ) (format align low w : ℕ) → low ≡ getD (pick (eqb format 1) s e) align 0 → w ≡ pick (eqb format 1) 11 29
+in-word : (s e : List ℕ) (format align low w : ℕ) → low ≡ getD (pick (eqb format 1) s e) align 0
+    → w ≡ pick (eqb format 1) 11 29
     → atMost 21 s ≡ true → atMost 3 e ≡ true → InWord low w
 in-word s e format align low w el ew hs he = rw (el, ew) (by (eqb format 1))
   where
@@ -54,20 +57,29 @@ in-word s e format align low w el ew hs he = rw (el, ew) (by (eqb format 1))
 -- the identifier's field
 pub id-in-word : (format align low w : ℕ) → low ≡ idLow format align → w ≡ idBits format → InWord low w
 unfolding idLow idBits
-id-in-word format align low w el ew = in-word (0 ∷ 0 ∷ 18 ∷ 21 ∷ []) (0 ∷ 0 ∷ 0 ∷ 3 ∷ []) format align low w el ew refl refl
+id-in-word format align low w el ew = in-word (0 ∷ 0 ∷ 18 ∷ 21 ∷ [])
+    (0 ∷ 0 ∷ 0 ∷ 3 ∷ []) format align low w el ew refl refl
 
 -- the filter bits that an identifier meets
 pub filter-in-word : (format align low w : ℕ) → low ≡ filterLow format align → w ≡ idBits format → InWord low w
 unfolding filterLow idBits
-filter-in-word format align low w el ew = in-word (21 ∷ 0 ∷ 18 ∷ 21 ∷ []) (3 ∷ 0 ∷ 0 ∷ 3 ∷ []) format align low w el ew refl refl
+filter-in-word format align low w el ew = in-word (21 ∷ 0 ∷ 18 ∷ 21 ∷ [])
+    (3 ∷ 0 ∷ 0 ∷ 3 ∷ []) format align low w el ew refl refl
 
 -- what stands in a column of four entries, by the tests of the code
-pub column : (a b c d i : ℕ) → getD (a ∷ b ∷ c ∷ d ∷ []) i 0 ≡ pick (eqb i 0) a (pick (eqb i 1) b (pick (eqb i 2) c (pick (eqb i 3) d 0)))
+pub column : (a b c d i : ℕ) → getD (a ∷ b ∷ c ∷ d ∷ []) i 0
+    ≡ pick (eqb i 0) a (pick (eqb i 1) b (pick (eqb i 2) c (pick (eqb i 3) d 0)))
 column a b c d zero = refl
 column a b c d (suc zero) = refl
 column a b c d (suc (suc zero)) = refl
 column a b c d (suc (suc (suc zero))) = refl
-column a b c d (suc (suc (suc (suc i)))) = simp (far 0 (omega arith), far 1 (omega arith), far 2 (omega arith), far 3 (omega arith))
+column a b c d (suc (suc (suc (suc i)))) = simp (
+  far 0 (omega arith),
+  far 1 (omega arith),
+  far 2 (omega arith),
+  far 3
+      (omega arith),
+)
   where
     far : (k : ℕ) → k < 4 → eqb (suc (suc (suc (suc i)))) k ≡ false
     far k h = ne-eqb (suc (suc (suc (suc i)))) k (λ e. omega arith)
@@ -89,7 +101,8 @@ abbrev pub Same : ℕ → ℕ → ℕ → Type 0
 Same mask v r = (k : ℕ) → k < 32 → bit r k ≡ pick (eqb (bit mask k) v) 1 0
 
 pub same-flipped : (mask v : ℕ) → v ≡ 0 → Same mask v (bitXor mask 4294967295)
-same-flipped mask v e k h = rw e (bit-xor mask 4294967295 k ∙ ap (differ (bit mask k)) (bit-ones 32 k h) ∙ flip (bit-is mask k))
+same-flipped mask v e k h = rw e (bit-xor mask 4294967295 k ∙ ap (differ (bit mask k)) (bit-ones 32 k h)
+    ∙ flip (bit-is mask k))
   where
     flip : {b : ℕ} → Bit b → differ b 1 ≡ pick (eqb b 0) 1 0
     flip off = refl
@@ -117,7 +130,8 @@ unfolding free
 clash-bit q low v must k same h =
     ap (λ (n : ℕ). eqb n 0)
     (bit-and (bitXor v (q .code / 2 ^ low)) (must / 2 ^ low) k
-    ∙ ap₂ min (bit-xor v (q .code / 2 ^ low) k ∙ ap (differ (bit v k)) (bit-shr (q .code) low k)) (bit-shr must low k ∙ same (low + k) h))
+    ∙ ap₂ min (bit-xor v (q .code / 2 ^ low) k ∙ ap (differ (bit v k)) (bit-shr (q .code) low k))
+    (bit-shr must low k ∙ same (low + k) h))
     ∙ by (eqb (bit (q .mask) (low + k)) (q .active)) (bit-is v k) (bit-is (q .code) (low + k))
   where
     by : (t : Bool) {x y : ℕ} → Bit x → Bit y → eqb (min (differ x y) (pick t 1 0)) 0 ≡ (not t || eqb x y)
@@ -136,19 +150,22 @@ field-test q low v must (suc w) same h =
     ∙ ap₂ _&&_ (clash-bit q low v must w same (omega arith)) (field-test q low v must w same (omega arith))
 
 -- the test in the code: no bit of v that must match differs from the code's
-pub field-closed : (q : Filter) (low v w must lows : ℕ) → Same (q .mask) (q .active) must → lows ≡ 2 ^ w - 1 → low + w ≤ 32
+pub field-closed : (q : Filter) (low v w must lows : ℕ) → Same (q .mask) (q .active) must → lows ≡ 2 ^ w - 1
+    → low + w ≤ 32
     → eqb (bitAnd (clash q low v must) lows) 0 ≡ fieldMeets q low v w
 field-closed q low v w must lows same e h = rw (e, and-mask (clash q low v must) w) (field-test q low v must w same h)
 
 -- ---- the number of free bits
 
-free-count : (q : Filter) (low ins w : ℕ) → Same (q .mask) (1 - q .active) ins → q .active ≤ 1 → low + w ≤ 32 → ones (ins / 2 ^ low % 2 ^ w) ≡ freeBits q low w
+free-count : (q : Filter) (low ins w : ℕ) → Same (q .mask) (1 - q .active) ins → q .active ≤ 1 → low + w ≤ 32
+    → ones (ins / 2 ^ low % 2 ^ w) ≡ freeBits q low w
 unfolding freeBits free ones onesIn
 free-count q low ins zero same ha h = ap ones (mod-one (ins / 2 ^ low))
 free-count q low ins (suc w) same ha h =
     ones-suc (ins / 2 ^ low) w
     ∙ ap₂ _+_
-    (bit-shr ins low w ∙ same (low + w) (omega arith) ∙ other (bit-is (q .mask) (low + w)) (is-bit (q .active) (omega arith)))
+    (bit-shr ins low w ∙ same (low + w) (omega arith)
+    ∙ other (bit-is (q .mask) (low + w)) (is-bit (q .active) (omega arith)))
     (free-count q low ins w same ha (omega arith))
   where
     other : {b a : ℕ} → Bit b → Bit a → _≡_ {A = ℕ} (pick (eqb b (1 - a)) 1 0) (pick (not (eqb b a)) 1 0)
@@ -158,7 +175,8 @@ free-count q low ins (suc w) same ha h =
     other on on = refl
 
 -- the count in the code: the ones among the free bits
-pub free-closed : (q : Filter) (low w ins lows : ℕ) → Same (q .mask) (1 - q .active) ins → lows ≡ 2 ^ w - 1 → q .active ≤ 1 → low + w ≤ 32
+pub free-closed : (q : Filter) (low w ins lows : ℕ) → Same (q .mask) (1 - q .active) ins → lows ≡ 2 ^ w - 1
+    → q .active ≤ 1 → low + w ≤ 32
     → ones (bitAnd (ins / 2 ^ low) lows) ≡ freeBits q low w
 free-closed q low w ins lows same e ha h = rw (e, and-mask (ins / 2 ^ low) w) (free-count q low ins w same ha h)
 

@@ -39,9 +39,16 @@ pub good-header : (h : Header) → headerRefusal h ≡ 0 → HeaderFacts h
 unfolding headerRefusal
 good-header h e =
     let g = by (isFormat (h .format)) (ltb (h .id) (2 ^ idBits (h .format))) (leb (h .rtr) 1) (leb (h .dlc) 15) e in
-    record { format = g .0; id = ltb-true (h .id) (2 ^ idBits (h .format)) (g .1); rtr = leb-true (h .rtr) 1 (g .2); dlc = leb-true (h .dlc) 15 (g .3) }
+    record {
+      format = g .0;
+      id = ltb-true (h .id) (2 ^ idBits (h .format)) (g .1);
+      rtr = leb-true (h .rtr) 1
+          (g .2);
+      dlc = leb-true (h .dlc) 15 (g .3);
+    }
   where
-    by : (f i r d : Bool) → _≡_ {A = ℕ} (pick f (pick i (pick r (pick d 0 10) 9) 8) 13) 0 → (f ≡ true) × (i ≡ true) × (r ≡ true) × (d ≡ true)
+    by : (f i r d : Bool) → _≡_ {A = ℕ} (pick f (pick i (pick r (pick d 0 10) 9) 8) 13) 0
+        → (f ≡ true) × (i ≡ true) × (r ≡ true) × (d ≡ true)
     by true true true true e = (refl, refl, refl, refl)
     by true true true false e = absurd (omega arith)
     by true true false d e = absurd (omega arith)

@@ -8,7 +8,8 @@ use lib.Dec.{leb, eqb}
 use Rattle.common.specs.Choice.{pick}
 use Rattle.ids.specs.Ids.{bit, isFormat, idBits}
 use Rattle.ids.specs.Frames.{carried}
-use Rattle.ids.specs.Filters.{isFilter, filterLow, dataCompared, free, fieldMeets, idPasses, byteMeets, dataPasses}
+use Rattle.ids.specs.Filters.{isFilter, filterLow, dataCompared, free, fieldMeets, idPasses, byteMeets}
+use Rattle.ids.specs.Filters.{dataPasses}
 use Rattle.ids.specs.declared.Filter.{Filter}
 use Rattle.ids.specs.declared.Header.{Header}
 use Rattle.ids.proofs.Fields.{Same, filter-in-word}
@@ -39,8 +40,14 @@ module _ (q : Filter) (must : ℕ) (same : Same (q .mask) (q .active) must) (non
   unfolding idPasses dataPasses byteMeets
   open-passes align h first second =
       let inside = filter-in-word (h .format) align _ _ refl refl in
-      rw (field-open (filterLow (h .format) align) (h .id) (idBits (h .format)) (inside .2), field-open 8 first 8 (omega arith), field-open 0 second 8 (omega arith))
-      (by (isFilter align (q .active)) (isFormat (h .format)) (dataCompared align (h .format)) (leb (carried h) 0) (leb (carried h) 1))
+      rw (
+        field-open (filterLow (h .format) align) (h .id) (idBits (h .format)) (inside .2),
+        field-open 8 first 8
+            (omega arith),
+        field-open 0 second 8 (omega arith),
+      )
+      (by (isFilter align (q .active)) (isFormat (h .format)) (dataCompared align (h .format)) (leb (carried h) 0)
+      (leb (carried h) 1))
     where
       by : (a b c x y : Bool) → (a && b) ≡ ((a && b && true) && (not c || ((x || true) && (y || true))))
       by true true c x y = rw (or-true x, or-true y) (sym (or-true (not c)))

@@ -14,12 +14,14 @@ use Rattle.ids.specs.declared.Id.the-variants.{Good, Bad}
 use Rattle.ids.proofs.Fields.{id-in-word}
 
 -- a raw identifier within its 11 or 29 bits is shown shifted into its field
-pub good-aligned : (align f raw : ℕ) → align ≤ 3 → isFormat f ≡ true → raw < 2 ^ idBits f → aligned align f raw ≡ Good (raw * 2 ^ idLow f align)
+pub good-aligned : (align f raw : ℕ) → align ≤ 3 → isFormat f ≡ true → raw < 2 ^ idBits f
+    → aligned align f raw ≡ Good (raw * 2 ^ idLow f align)
 unfolding aligned
 good-aligned align f raw ha hf h = simp (le-leb align 3 ha, hf, lt-ltb raw (2 ^ idBits f) h)
 
 -- the code's shift loses no bit of it
-pub align-good : (align f raw low lim : ℕ) → align ≤ 3 → isFormat f ≡ true → raw < lim → lim ≡ 2 ^ idBits f → low ≡ idLow f align
+pub align-good : (align f raw low lim : ℕ) → align ≤ 3 → isFormat f ≡ true → raw < lim → lim ≡ 2 ^ idBits f
+    → low ≡ idLow f align
     → Good (raw * 2 ^ low % 4294967296) ≡ aligned align f raw
 align-good align f raw low lim ha hf hr el elow =
     let h : raw < 2 ^ idBits f = rw (← el) hr in

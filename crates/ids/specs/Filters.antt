@@ -14,7 +14,7 @@ use Rattle.ids.specs.declared.Header.{Header}
 unfoldable pub isFilter : ℕ → ℕ → Bool
 isFilter align active = leb align 3 && leb active 1
 
--- the lowest filter bit that an identifier meets at Align 0, 1, 2, 3: the columns "Standard filter" and "Extended filter"
+-- the lowest filter bit that an identifier meets at Align 0 to 3: the columns "Standard filter", "Extended filter"
 unfoldable pub filterLow : ℕ → ℕ → ℕ
 filterLow format align = getD (pick (eqb format 1) (21 ∷ 0 ∷ 18 ∷ 21 ∷ []) (3 ∷ 0 ∷ 0 ∷ 3 ∷ [])) align 0
 

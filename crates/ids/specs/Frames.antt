@@ -6,7 +6,7 @@ use Rattle.common.specs.Choice.{pick}
 use Rattle.ids.specs.Ids.{isFormat, idBits, idLow}
 use Rattle.ids.specs.declared.Header.{Header}
 
--- 0 for a good header; else 13 for a format not 1 or 2, 8 for a bad raw identifier, 9 for rtr above 1, 10 for dlc above 15, in this order
+-- 0 for a good header; else the first of 13 (format not 1 or 2), 8 (bad raw identifier), 9 (rtr above 1), 10 (dlc above 15)
 unfoldable pub headerRefusal : Header → ℕ
 headerRefusal h =
     pick (isFormat (h .format))

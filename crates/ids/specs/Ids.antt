@@ -33,7 +33,8 @@ aligned align format raw =
 unfoldable pub rawOf : ℕ → ℕ → ℕ → Id
 rawOf align format shown =
     pick
-    (leb align 3 && isFormat format && eqb (shown % 2 ^ idLow format align) 0 && ltb (shown / 2 ^ idLow format align) (2 ^ idBits format))
+    (leb align 3 && isFormat format && eqb (shown % 2 ^ idLow format align) 0
+    && ltb (shown / 2 ^ idLow format align) (2 ^ idBits format))
     (Good (shown / 2 ^ idLow format align)) Bad
 
 -- a bad identifier

@@ -1,4 +1,5 @@
--- Refusal 2 apart, no send-side answer depends on the event queue: two devices that differ in their receive channels, over any two event tables,
+-- Refusal 2 apart, no send-side answer depends on the event queue: two devices that differ in their receive channels,
+-- over any two event tables,
 -- both ready, give the same number, value and bytes, and leave the same send channel and the same message table.
 use mathlib.Core.Path.{_≡_}
 use mathlib.Core.Bool.{true}
@@ -26,7 +27,14 @@ pub record Sender : Type 0 where
   pub table : List ℕ
 
 abbrev pub sender : Outcome → Sender
-sender o = record { number = o .number; value = o .value; bytes = o .bytes; send = o .device .send; table = o .lent .send }
+sender o = record {
+  number = o .number;
+  value = o .value;
+  bytes = o .bytes;
+  send = o .device .send;
+  table = o .lent
+      .send;
+}
 
 -- a device that is ready has a possible receive side
 send-side : (d : Device) (l : Lent) → sendReady d l ≡ true → goodReceive (d .receive) ≡ true

@@ -16,16 +16,19 @@ module _ (s : Settings) (l : Lent) where
   unfolding opened
   open-bad h = rw h
 
-  pub open-short : good (fresh s) ≡ true → queueFits (fresh s .receive) (length (l .queue)) ≡ false → opened s l ≡ refuses 2 noDevice l
+  pub open-short : good (fresh s) ≡ true → queueFits (fresh s .receive) (length (l .queue)) ≡ false
+      → opened s l ≡ refuses 2 noDevice l
   unfolding opened
   open-short g h = rw (g, h)
 
-  pub open-short-send : good (fresh s) ≡ true → queueFits (fresh s .receive) (length (l .queue)) ≡ true → sendFits (fresh s .send) (length (l .send)) ≡ false
+  pub open-short-send : good (fresh s) ≡ true → queueFits (fresh s .receive) (length (l .queue)) ≡ true
+      → sendFits (fresh s .send) (length (l .send)) ≡ false
       → opened s l ≡ refuses 2 noDevice l
   unfolding opened
   open-short-send g f h = rw (g, f, h)
 
-  pub open-good : good (fresh s) ≡ true → queueFits (fresh s .receive) (length (l .queue)) ≡ true → sendFits (fresh s .send) (length (l .send)) ≡ true
+  pub open-good : good (fresh s) ≡ true → queueFits (fresh s .receive) (length (l .queue)) ≡ true
+      → sendFits (fresh s .send) (length (l .send)) ≡ true
       → opened s l ≡ ends 0 0 [] (fresh s) l
   unfolding opened
   open-good g f h = rw (g, f, h)

@@ -29,7 +29,8 @@ ready-fits d l h = and-right (good d) (queueFits (d .receive) (length (l .queue)
 pub receive-good : (d : Device) → good d ≡ true → goodReceive (d .receive) ≡ true
 unfolding good
 receive-good d h =
-    and-right (goodShared (d .shared)) (goodReceive (d .receive)) (and-left (goodShared (d .shared) && goodReceive (d .receive)) (goodSend (d .send)) h)
+    and-right (goodShared (d .shared)) (goodReceive (d .receive))
+    (and-left (goodShared (d .shared) && goodReceive (d .receive)) (goodSend (d .send)) h)
 
 -- and its receive side is usable
 pub ready-usable : (d : Device) (l : Lent) → queueReady d l ≡ true → usable (d .receive) (l .queue) ≡ true
@@ -42,7 +43,8 @@ align-in d h =
     let s = d .shared in
     leb-true (s .align) 3
     (and-right (leb (s .mode) 1 && leb (s .format) 2 && modeTakes (s .mode) (s .format)) (leb (s .align) 3)
-    (and-left (goodShared s) (goodReceive (d .receive)) (and-left (goodShared s && goodReceive (d .receive)) (goodSend (d .send)) h)))
+    (and-left (goodShared s) (goodReceive (d .receive))
+    (and-left (goodShared s && goodReceive (d .receive)) (goodSend (d .send)) h)))
 
 -- an event of a code other than 1 has another code than 1
 pub other-code : (code tick : ℕ) (m : Message) → (code ≡ 1 → ⊥) → codeOf (eventOf code tick m .kind) ≡ 1 → ⊥

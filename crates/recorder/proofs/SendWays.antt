@@ -53,7 +53,8 @@ module _ (o : Outbox.Outcome) (d : Device) (l : Lent) (w : Outcome) (ok : Bool) 
     past = sym (carried-past (o .raised) (d .receive) (l .queue) (d .shared) other)
 
     pub emptied-met : (s : Emptied) → s ≡ Outbox.emptiedOf o → {r : Answer} {q : List ℕ}
-        → EmptiedMet d s (carriedPast (s .raised) (d .receive) (l .queue)) r q → QueueMet (pick ok (carrying o d l) w) r q
+        → EmptiedMet d s (carriedPast (s .raised) (d .receive) (l .queue)) r q
+        → QueueMet (pick ok (carrying o d l) w) r q
     emptied-met s m a =
         rw z (record { answer = a .answer ∙ rw (m, past); queue-bytes = a .queue-bytes ∙ rw (m, past) })
 

@@ -1,4 +1,5 @@
--- Each public call's contract leaves one outcome: two answers, with the devices and the bytes left beside them, that both meet it are equal.
+-- Each public call's contract leaves one outcome: two answers, with the devices and the bytes left beside them, that
+-- both meet it are equal.
 -- A contract of the form `answer ≡ definition` leaves one by itself; `alike` says so once for all of them.
 use mathlib.Core.Path.{_≡_, sym, _∙_}
 use mathlib.Core.List.{List}

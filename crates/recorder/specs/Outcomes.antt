@@ -25,7 +25,8 @@ pub record Lent : Type 0 where
 abbrev pub lends : List ℕ → List ℕ → List ℕ → Lent
 lends queue send out = record { queue = queue; send = send; out = out }
 
--- what a call answers: the paper's number, a value (a line's length, the bytes used, how many were purged or let through), the bytes read or taken;
+-- what a call answers: the paper's number, a value (a line's length, the bytes used, how many were purged or let
+-- through), the bytes read or taken;
 -- and what it leaves: the device and every byte that it was lent
 pub record Outcome : Type 0 where
   pub number : ℕ

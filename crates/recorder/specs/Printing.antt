@@ -17,18 +17,21 @@ use Rattle.recorder.specs.declared.Device.{Device}
 unfoldable pub linePrinted : ℕ → List ℕ → Device → Lent → Outcome
 linePrinted number line d l =
     pick (good d)
-    (pick (eqb number 0) (ends 0 (length line) [] d (withOut l (line ++ drop (length line) (l .out)))) (refuses number d l))
+    (pick (eqb number 0) (ends 0 (length line) [] d (withOut l (line ++ drop (length line) (l .out))))
+    (refuses number d l))
     (refuses 2 d l)
 
 -- a message record: 2, 3, 14
 abbrev pub messageRecordPrinted : List ℕ → Device → Lent → Outcome
 messageRecordPrinted s d l =
-    linePrinted (messageRecordRefusal (d .shared .align) s (length (l .out))) (messageLine (d .shared .align) (messageIn s)) d l
+    linePrinted (messageRecordRefusal (d .shared .align) s (length (l .out)))
+    (messageLine (d .shared .align) (messageIn s)) d l
 
 -- an event record: 2, 3, 14
 abbrev pub eventRecordPrinted : List ℕ → Device → Lent → Outcome
 eventRecordPrinted s d l =
-    linePrinted (eventRecordRefusal (d .shared .align) s (length (l .out))) (eventLine (d .shared .align) (eventIn s)) d l
+    linePrinted (eventRecordRefusal (d .shared .align) s (length (l .out)))
+    (eventLine (d .shared .align) (eventIn s)) d l
 
 -- a message given alone, raw identifier, either mode: 2, 3, 13, 8, 9, 10
 abbrev pub messagePrinted : Message → Device → Lent → Outcome

@@ -28,7 +28,8 @@ pub power-shl : (n : ℕ) → n < 8 → 1 * 2 ^ (8 * n) % 2 ^ 64 ≡ 256 ^ n
 power-shl n h = shl-exact {a = 1} 1 (8 * n) 64 (omega arith) (omega arith) ∙ one-mul (2 ^ (8 * n)) ∙ power-two n
 
 -- two halves of four bytes
-pub halves : (b : List ℕ) (low high : ℕ) → length b ≡ 8 → low ≡ numberOf (reads b 0 4) → high ≡ numberOf (reads b 4 4) → low + 4294967296 * high ≡ numberOf b
+pub halves : (b : List ℕ) (low high : ℕ) → length b ≡ 8 → low ≡ numberOf (reads b 0 4) → high ≡ numberOf (reads b 4 4)
+    → low + 4294967296 * high ≡ numberOf b
 halves b low high h p q =
     let e : low + 4294967296 * high ≡ numberOf (reads b 0 8) = omega arith in
     e ∙ ap numberOf (reads-all b 8 h)
@@ -41,10 +42,12 @@ pub none-past : (b : List ℕ) (n : ℕ) → length b ≡ 8 → 8 ≤ n → true
 none-past b n h l = sym (ap allZero (drop-of-length-le b {i = n} (omega arith)))
 
 -- the first n bytes and zeros
-pub kept : (b r : List ℕ) (n d k : ℕ) → length b ≡ 8 → Bytes b → d ≡ numberOf b → k ≡ 256 ^ n → r ≡ bytesOf 8 (d % k) → r ≡ take n b ++ replicate (8 - n) 0
+pub kept : (b r : List ℕ) (n d k : ℕ) → length b ≡ 8 → Bytes b → d ≡ numberOf b → k ≡ 256 ^ n → r ≡ bytesOf 8 (d % k)
+    → r ≡ take n b ++ replicate (8 - n) 0
 kept b r n d k h g p q e = e ∙ rw (p, q) (rw h at (first-bytes b n g))
 
-pub all-kept : (b r : List ℕ) (n d : ℕ) → length b ≡ 8 → Bytes b → 8 ≤ n → d ≡ numberOf b → r ≡ bytesOf 8 d → r ≡ take n b ++ replicate (8 - n) 0
+pub all-kept : (b r : List ℕ) (n d : ℕ) → length b ≡ 8 → Bytes b → 8 ≤ n → d ≡ numberOf b → r ≡ bytesOf 8 d
+    → r ≡ take n b ++ replicate (8 - n) 0
 all-kept b r n d h g l p e =
     let z : 8 - n ≡ 0 = omega arith in
     let t : take n b ≡ b = take-all n b (omega arith) in
@@ -64,13 +67,16 @@ some-carried m l e = rw (ne-eqb (m .header .rtr) 1 e) (by-test (leb (m .header .
     d : ℕ
     d = m .header .dlc
 
-    few : leb d 8 ≡ true → take d (m .bytes) ++ replicate (8 - d) 0 ≡ take (min d 8) (m .bytes) ++ replicate (8 - min d 8) 0
+    few : leb d 8 ≡ true → take d (m .bytes) ++ replicate (8 - d) 0
+        ≡ take (min d 8) (m .bytes) ++ replicate (8 - min d 8) 0
     few t = let x : min d 8 ≡ d = omega (arith, leb-true d 8 t) in rw x
 
-    all : leb d 8 ≡ false → take d (m .bytes) ++ replicate (8 - d) 0 ≡ take (min d 8) (m .bytes) ++ replicate (8 - min d 8) 0
+    all : leb d 8 ≡ false → take d (m .bytes) ++ replicate (8 - d) 0
+        ≡ take (min d 8) (m .bytes) ++ replicate (8 - min d 8) 0
     all t =
         let past = leb-false d 8 t in
         let x : min d 8 ≡ 8 = omega arith in
         let z : 8 - d ≡ 0 = omega arith in
-        let whole : take d (m .bytes) ≡ take 8 (m .bytes) = take-all d (m .bytes) (omega arith) ∙ sym (take-all 8 (m .bytes) (omega arith)) in
+        let whole : take d (m .bytes) ≡ take 8 (m .bytes) = take-all d (m .bytes) (omega arith)
+        ∙ sym (take-all 8 (m .bytes) (omega arith)) in
         rw (x, z, whole)

@@ -16,7 +16,8 @@ use Rattle.common.proofs.Lists.{reads, reads-slice, reads-all}
 use Rattle.common.proofs.Numbers.{zeros-zero, number-back, bytes-back}
 use Rattle.ids.specs.Frames.{headerRefusal, carried}
 use Rattle.ids.proofs.Frames.{carried-le, good-header, good-id, good-format}
-use Rattle.records.specs.Messages.{stored, goodMessage, messageBytes, messageIn, isMessage, noMessage, judgeMessage}
+use Rattle.records.specs.Messages.{stored, goodMessage, messageBytes, messageIn, isMessage, noMessage}
+use Rattle.records.specs.Messages.{judgeMessage}
 use Rattle.records.specs.declared.Message.{Message}
 use Rattle.records.specs.declared.JudgedMessage.{JudgedMessage}
 use Rattle.records.proofs.Laws.{message-tests}
@@ -29,7 +30,8 @@ reads-bytes s f (suc n) g zero = g f
 reads-bytes s f (suc n) g (suc i) = reads-bytes s (suc f) n g i
 
 -- the bytes of the number that four bytes stand for
-pub number-bytes : (s : List ℕ) (f : ℕ) → Bytes s → f + 4 ≤ length s → bytesOf 4 (numberOf (slice f (f + 4) s)) ≡ reads s f 4
+pub number-bytes : (s : List ℕ) (f : ℕ) → Bytes s → f + 4 ≤ length s
+    → bytesOf 4 (numberOf (slice f (f + 4) s)) ≡ reads s f 4
 number-bytes s f g h = rw (← reads-slice s f 4 h) (bytes-back (reads s f 4) (reads-bytes s f 4 g))
 
 -- ---- what is stored
@@ -59,9 +61,11 @@ stored-good m r h =
 
 pub good-refusal : (m : Message) → goodMessage m ≡ true → headerRefusal (m .header) ≡ 0
 unfolding goodMessage
-good-refusal m g = eqb-true (headerRefusal (m .header)) 0 (and-left (eqb (headerRefusal (m .header)) 0) (allZero (drop (carried (m .header)) (m .bytes))) g)
+good-refusal m g = eqb-true (headerRefusal (m .header)) 0
+    (and-left (eqb (headerRefusal (m .header)) 0) (allZero (drop (carried (m .header)) (m .bytes))) g)
 
-pub message-in-back : (m : Message) → length (m .bytes) ≡ 8 → headerRefusal (m .header) ≡ 0 → messageIn (messageBytes m) ≡ m
+pub message-in-back : (m : Message) → length (m .bytes) ≡ 8 → headerRefusal (m .header) ≡ 0
+    → messageIn (messageBytes m) ≡ m
 unfolding messageIn messageBytes
 message-in-back m h r =
     let g = good-header (m .header) r in
@@ -77,7 +81,8 @@ unfolding messageBytes
 byte-7 m = refl
 
 -- the bytes of a good message are judged to be that message
-pub message-back : (m : Message) → length (m .bytes) ≡ 8 → goodMessage m ≡ true → judgeMessage (messageBytes m) ≡ record { good = true; message = m }
+pub message-back : (m : Message) → length (m .bytes) ≡ 8 → goodMessage m ≡ true
+    → judgeMessage (messageBytes m) ≡ record { good = true; message = m }
 unfolding judgeMessage isMessage
 message-back m h g = rw (message-in-back m h (good-refusal m g), message-bytes-length m h, byte-7 m, g)
 
@@ -88,7 +93,8 @@ pub good-is : (s : List ℕ) → judgeMessage s .good ≡ isMessage s
 unfolding judgeMessage
 good-is s = by (isMessage s)
   where
-    by : (t : Bool) → pick {A = JudgedMessage} t (record { good = true; message = messageIn s }) (record { good = false; message = noMessage }) .good ≡ t
+    by : (t : Bool) → pick {A = JudgedMessage} t (record { good = true; message = messageIn s })
+        (record { good = false; message = noMessage }) .good ≡ t
     by true = refl
     by false = refl
 

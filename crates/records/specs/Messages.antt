@@ -52,4 +52,5 @@ noMessage = record { header = record { id = 0; format = 0; rtr = 0; dlc = 0 }; b
 
 -- what any bytes hold: their message, or damaged
 unfoldable pub judgeMessage : List ℕ → JudgedMessage
-judgeMessage s = pick (isMessage s) (record { good = true; message = messageIn s }) (record { good = false; message = noMessage })
+judgeMessage s =
+    pick (isMessage s) (record { good = true; message = messageIn s }) (record { good = false; message = noMessage })

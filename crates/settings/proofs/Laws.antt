@@ -96,7 +96,11 @@ shared-tests s h = by (s .mode) h
         formats zero = refl
         formats (suc zero) = refl
         formats (suc (suc zero)) = refl
-        formats (suc (suc (suc f))) = rw (lt-leb (suc (suc (suc f))) 2 (omega arith), lt-leb (suc (suc (suc f))) 1 (omega arith))
+        formats (suc (suc (suc f))) = rw (
+          lt-leb (suc (suc (suc f))) 2 (omega arith),
+          lt-leb (suc (suc (suc f))) 1
+              (omega arith),
+        )
     by (suc zero) z = ap (λ (t : Bool). t && leb (s .align) 3) (and-true (leb (s .format) 2))
       where
         and-true : (t : Bool) → (t && true) ≡ t

@@ -27,8 +27,13 @@ loop-again c =
     let l = c .before .before .before .loop in
     let a = c .before .before .before .before .args in
     let i<s : l .i < length (now (a .src)) = omega arith in
-    let i<d : l .i < length (now (a .dst)) = omega arith in
-    (search needs, search needs, simp length-set (l .inv .2), rw (l .inv .3) (copy-more (l .i) (now (a .src)) (now (a .dst)) i<s i<d))
+    let i<d : l .i < length (now (a .dst)) = omega arith in (
+      search needs,
+      search needs,
+      simp length-set (l .inv .2),
+      rw (l .inv .3)
+          (copy-more (l .i) (now (a .src)) (now (a .dst)) i<s i<d),
+    )
 
 returns-2 : tie.Need-returns-2 Inv-loop μ-loop
 returns-2 c =

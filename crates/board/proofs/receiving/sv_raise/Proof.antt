@@ -26,7 +26,8 @@ raise-possible-requires c κs =
 after-raise-requires : tie.Need-after-raise-requires
 after-raise-requires c κs =
     let d = c .before .before .before .before .before .before .device-in .result in
-    let a = c .before .before .before .before .before .before .before .before .before .before .before .before .before .args in
+    let a = c .before .before .before .before .before .before .before .before .before .before .before .before .before
+    .args in
     let met = c .before .before .raise-possible .ensures in
     room-for (next-by (d .shared) (d .receive) (a .code) (a .tick) _ (now (a .queue))) (met .number)
 
@@ -39,7 +40,8 @@ returns-2 : tie.Need-returns-2
 returns-2 c =
     let made = c .before .before .before .before .before .before .before .before .before .before in
     let test = made .before .before .before in
-    let met = rw (made .message .ensures) at (c .before .before .before .before .before .before .before .raise-possible .ensures) in
+    let met = rw (made .message .ensures) at (c .before .before .before .before .before .before .before .raise-possible
+    .ensures) in
     raise-called _ (said (test .before .is-possible .ensures) (test .if1 .left)) (made .before .device-in .ensures)
     _ _ _ _ met (c .before .before .before .before .after-raise .ensures) (c .before .before .leave-counted .ensures)
 

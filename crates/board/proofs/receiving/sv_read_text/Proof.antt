@@ -29,7 +29,8 @@ returns-2 c =
     let d = past .device-in .result in
     let l = lends (now (a .queue)) [] (now (a .out)) in
     let read = c .before .before .before .before .before .before .before .before .read-text .ensures in
-    let left = answer-advanced (now (a .state)) (past .device-in .ensures) (textRead d l) (text-moves d l) (read .answer)
+    let left = answer-advanced (now (a .state)) (past .device-in .ensures) (textRead d l) (text-moves d l)
+    (read .answer)
     (c .before .before .leave-advanced .ensures) in
     text-called _ (said (test .before .is-state .ensures) (test .if1 .left)) (past .device-in .ensures)
     _ left read (c .before .before .before .before .hand .ensures)

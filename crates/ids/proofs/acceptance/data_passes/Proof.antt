@@ -15,13 +15,24 @@ returns-2 c = simp (eq-eqb _ _ (c .before .if1 .left), eq-eqb _ _ (c .if2 .taken
 
 returns-3 : tie.Need-returns-3
 unfolding dataPasses dataCompared
-returns-3 c = simp (eq-eqb _ _ (c .before .before .before .if1 .left), ne-eqb _ _ (c .before .before .if2 .left), denied (c .before .byte-meets .ensures) (c .if3 .taken))
+returns-3 c = simp (
+  eq-eqb _ _ (c .before .before .before .if1 .left),
+  ne-eqb _ _
+      (c .before .before .if2 .left),
+  denied (c .before .byte-meets .ensures) (c .if3 .taken),
+)
 
 returns-4 : tie.Need-returns-4
 unfolding dataPasses dataCompared
 returns-4 c =
     let b = c .before .before in
-    simp (c .byte-meets2 .ensures, eq-eqb _ _ (b .before .before .if1 .left), ne-eqb _ _ (b .before .if2 .left), said (b .byte-meets .ensures) (c .before .if3 .left))
+    simp (
+      c .byte-meets2 .ensures,
+      eq-eqb _ _ (b .before .before .if1 .left),
+      ne-eqb _ _ (b .before .if2 .left),
+      said
+          (b .byte-meets .ensures) (c .before .if3 .left),
+    )
 
 pub data-passes-spec : {M : Type 1} → statement M
 data-passes-spec =

@@ -4,7 +4,8 @@ use Rattle.ids.proofs.acceptance.field_meets.Statement.{statement}
 use Rattle.ids.proofs.acceptance.field_meets.Tie as tie
 
 returns : tie.Need-returns
-returns c = field-closed _ _ _ _ _ _ (c .before .before .same-bits .ensures) (c .low-ones .ensures) (c .before .before .before .pre .2)
+returns c = field-closed _ _ _ _ _ _ (c .before .before .same-bits .ensures) (c .low-ones .ensures)
+    (c .before .before .before .pre .2)
 
 pub field-meets-spec : {M : Type 1} → statement M
 field-meets-spec =

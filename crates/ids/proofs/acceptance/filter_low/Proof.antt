@@ -18,7 +18,15 @@ returns-3 c = simp (eq-eqb _ _ (c .before .before .before .if1 .taken), c .if4 .
 
 returns-4 : tie.Need-returns-4
 unfolding filterLow
-returns-4 c = simp (eq-eqb _ _ (c .before .before .before .if1 .taken), column, ne-eqb _ _ (c .before .before .if2 .left), ne-eqb _ _ (c .before .if3 .left), ne-eqb _ _ (c .if4 .left), pick-same)
+returns-4 c = simp (
+  eq-eqb _ _ (c .before .before .before .if1 .taken),
+  column,
+  ne-eqb _ _
+      (c .before .before .if2 .left),
+  ne-eqb _ _ (c .before .if3 .left),
+  ne-eqb _ _ (c .if4 .left),
+  pick-same,
+)
 
 returns-5 : tie.Need-returns-5
 unfolding filterLow
@@ -30,7 +38,14 @@ returns-6 c = simp (ne-eqb _ _ (c .before .before .if1 .left), c .if6 .taken)
 
 returns-7 : tie.Need-returns-7
 unfolding filterLow
-returns-7 c = simp (ne-eqb _ _ (c .before .before .if1 .left), column, ne-eqb _ _ (c .before .if5 .left), ne-eqb _ _ (c .if6 .left), pick-same)
+returns-7 c = simp (
+  ne-eqb _ _ (c .before .before .if1 .left),
+  column,
+  ne-eqb _ _ (c .before .if5 .left),
+  ne-eqb _ _
+      (c .if6 .left),
+  pick-same,
+)
 
 pub filter-low-spec : {M : Type 1} → statement M
 filter-low-spec =

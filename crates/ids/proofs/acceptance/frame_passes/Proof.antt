@@ -15,7 +15,8 @@ unfolding framePasses
 returns-2 c =
     let m = c .before .before .before in
     let a = m .before .before .args in
-    let passes = open-passes (a .q) _ (c .before .before .same-bits .ensures) (c .before .if2 .taken) (a .align) (a .h) (a .first) (a .second) in
+    let passes = open-passes (a .q) _ (c .before .before .same-bits .ensures) (c .before .if2 .taken) (a .align) (a .h)
+    (a .first) (a .second) in
     rw (said (m .before .mode-takes .ensures) (m .if1 .left)) (c .has-column .ensures ∙ passes)
 
 returns-3 : tie.Need-returns-3
@@ -29,7 +30,12 @@ unfolding framePasses
 returns-4 c =
     let b = c .before .before in
     let m = b .before .before .before in
-    simp (c .data-passes .ensures, said (m .before .mode-takes .ensures) (m .if1 .left), said (b .id-passes .ensures) (c .before .if3 .left))
+    simp (
+      c .data-passes .ensures,
+      said (m .before .mode-takes .ensures) (m .if1 .left),
+      said (b .id-passes .ensures)
+          (c .before .if3 .left),
+    )
 
 pub frame-passes-spec : {M : Type 1} → statement M
 frame-passes-spec =

@@ -4,7 +4,8 @@ use Rattle.ids.proofs.acceptance.free_bits.Statement.{statement}
 use Rattle.ids.proofs.acceptance.free_bits.Tie as tie
 
 returns : tie.Need-returns
-returns c = free-closed _ _ _ _ _ (c .before .same-bits .ensures) (c .low-ones .ensures) (c .before .before .before .pre .0) (c .before .before .before .pre .3)
+returns c = free-closed _ _ _ _ _ (c .before .same-bits .ensures) (c .low-ones .ensures)
+    (c .before .before .before .pre .0) (c .before .before .before .pre .3)
 
 pub free-bits-spec : {M : Type 1} → statement M
 free-bits-spec =

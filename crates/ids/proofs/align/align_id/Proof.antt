@@ -27,7 +27,8 @@ shl-t7 c = id-in-word _ _ _ _ (c .id-low .ensures) refl .0
 returns-4 : tie.Need-returns-4
 returns-4 c =
     let b = c .before .before .before in
-    align-good _ _ _ _ _ (b .before .before .if1 .left) (said (b .before .is-format .ensures) (b .if2 .left)) (c .before .if3 .left) (c .before .before .id-limit .ensures) (c .id-low .ensures)
+    align-good _ _ _ _ _ (b .before .before .if1 .left) (said (b .before .is-format .ensures) (b .if2 .left))
+    (c .before .if3 .left) (c .before .before .id-limit .ensures) (c .id-low .ensures)
 
 pub align-id-spec : {M : Type 1} → statement M
 align-id-spec =

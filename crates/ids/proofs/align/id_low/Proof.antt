@@ -14,7 +14,14 @@ returns-2 c = simp (eq-eqb _ _ (c .before .before .if1 .taken), c .if3 .taken)
 
 returns-3 : tie.Need-returns-3
 unfolding idLow
-returns-3 c = simp (eq-eqb _ _ (c .before .before .if1 .taken), column, ne-eqb _ _ (c .before .if2 .left), ne-eqb _ _ (c .if3 .left), pick-same)
+returns-3 c = simp (
+  eq-eqb _ _ (c .before .before .if1 .taken),
+  column,
+  ne-eqb _ _ (c .before .if2 .left),
+  ne-eqb _ _
+      (c .if3 .left),
+  pick-same,
+)
 
 returns-4 : tie.Need-returns-4
 unfolding idLow

@@ -26,14 +26,25 @@ rem-if3 c = rw (one-shl _ (shl-if3 c)) (pow-pos (c .id-low .result))
 
 returns-3 : tie.Need-returns-3
 unfolding rawOf
-returns-3 c = simp (← c .before .id-low .ensures, ne-eqb _ _ (rw (one-shl _ (shl-if3 (c .before))) at (c .if3 .taken)), and-false)
+returns-3 c = simp (
+  ← c .before .id-low .ensures,
+  ne-eqb _ _
+      (rw (one-shl _ (shl-if3 (c .before))) at (c .if3 .taken)),
+  and-false,
+)
 
 shr-raw : tie.Need-shr-raw
 shr-raw c = shl-if3 (c .before)
 
 returns-4 : tie.Need-returns-4
 unfolding rawOf
-returns-4 c = simp (← c .before .before .before .id-low .ensures, ← c .before .id-limit .ensures, le-ltb _ _ (c .if4 .taken), and-false)
+returns-4 c = simp (
+  ← c .before .before .before .id-low .ensures,
+  ← c .before .id-limit .ensures,
+  le-ltb _ _
+      (c .if4 .taken),
+  and-false,
+)
 
 returns-5 : tie.Need-returns-5
 unfolding rawOf

@@ -11,13 +11,24 @@ returns c = simp (denied (c .before .is-format .ensures) (c .if1 .taken))
 
 returns-2 : tie.Need-returns-2
 unfolding headerRefusal
-returns-2 c = simp (said (c .before .before .before .before .is-format .ensures) (c .before .before .before .if1 .left), ← c .before .before .id-limit .ensures, le-ltb _ _ (c .if2 .taken))
+returns-2 c = simp (
+  said (c .before .before .before .before .is-format .ensures)
+      (c .before .before .before .if1 .left),
+  ← c .before .before .id-limit .ensures,
+  le-ltb _ _ (c .if2 .taken),
+)
 
 returns-3 : tie.Need-returns-3
 unfolding headerRefusal
 returns-3 c =
     let b = c .before .before .before .before in
-    simp (said (b .before .before .is-format .ensures) (b .before .if1 .left), ← b .id-limit .ensures, lt-ltb _ _ (c .before .before .if2 .left), lt-leb _ _ (c .if3 .taken))
+    simp (
+      said (b .before .before .is-format .ensures) (b .before .if1 .left),
+      ← b .id-limit .ensures,
+      lt-ltb _ _
+          (c .before .before .if2 .left),
+      lt-leb _ _ (c .if3 .taken),
+    )
 
 returns-4 : tie.Need-returns-4
 unfolding headerRefusal

@@ -18,7 +18,8 @@ returns : tie.Need-returns
 returns c =
     let a = c .before .before .before .before .args in
     let l = lends (now (a .queue)) [] [] in
-    queue-met 2 0 [] _ _ (change-2 (a .s) (a .tick) (a .d) l (denied (c .before .before .queue-ready .ensures) (c .before .if1 .taken)))
+    queue-met 2 0 [] _ _ (change-2 (a .s) (a .tick) (a .d) l
+    (denied (c .before .before .queue-ready .ensures) (c .before .if1 .taken)))
     (c .answer .ensures) refl
 
 returns-2 : tie.Need-returns-2
@@ -39,7 +40,8 @@ past-filter-requires c κs =
 after-raise-requires : tie.Need-after-raise-requires
 after-raise-requires c κs =
     let a = c .before .before .before .before .before .before .before .before .before .before .before .before .args in
-    room-for (next-past (a .d .receive) (eventOf 5 (a .tick) _) (now (a .queue))) (c .before .before .before .past-filter .ensures .number)
+    room-for (next-past (a .d .receive) (eventOf 5 (a .tick) _) (now (a .queue)))
+    (c .before .before .before .past-filter .ensures .number)
 
 returns-3 : tie.Need-returns-3
 returns-3 c =
@@ -49,8 +51,10 @@ returns-3 c =
     let a = past .before .before .before .before .before .args in
     let l = lends (now (a .queue)) [] [] in
     let e = eventOf 5 (a .tick) noMessage in
-    let met = rw (c .before .before .before .before .before .before .before .before .no-message .ensures) at (c .before .before .before .before .before .before .past-filter .ensures) in
-    let next = built (next-past (a .d .receive) e (now (a .queue))) (met .number) (c .before .before .after-raise .ensures) in
+    let met = rw (c .before .before .before .before .before .before .before .before .no-message .ensures) at
+    (c .before .before .before .before .before .before .past-filter .ensures) in
+    let next = built (next-past (a .d .receive) e (now (a .queue))) (met .number)
+    (c .before .before .after-raise .ensures) in
     change-met (a .s) (a .tick) (a .d) l ready good met next
     (c .answer3 .ensures ∙ rw (c .before .with-receive .ensures, c .before .before .before .with-shared .ensures))
 

@@ -26,7 +26,8 @@ returns c =
     let fresh-device = c .before .before .before .before .fresh-device in
     let is-good = c .before .before .before .is-good in
     c .answer .ensures ∙ rw (c .before .no-device .ensures)
-    (sym (ap answerOf (open-bad (a .s) (lends (now (a .queue)) (now (a .send)) []) (rw (fresh-device .ensures) at (denied (is-good .ensures) (c .before .before .if1 .taken))))))
+    (sym (ap answerOf (open-bad (a .s) (lends (now (a .queue)) (now (a .send)) [])
+    (rw (fresh-device .ensures) at (denied (is-good .ensures) (c .before .before .if1 .taken))))))
 
 fits-requires : tie.Need-fits-requires
 fits-requires c κs = search needs
@@ -45,7 +46,8 @@ returns-2 c =
     let if1 = c .before .before .before .before .if1 in
     let fits2 = c .before .before .before .fits2 in
     c .answer2 .ensures ∙ rw (c .before .no-device2 .ensures)
-    (sym (ap answerOf (open-short (a .s) (lends (now (a .queue)) (now (a .send)) []) (rw (fresh-device .ensures) at (said (is-good .ensures) (if1 .left)))
+    (sym (ap answerOf (open-short (a .s) (lends (now (a .queue)) (now (a .send)) [])
+    (rw (fresh-device .ensures) at (said (is-good .ensures) (if1 .left)))
     (rw (fresh-device .ensures) at (denied (fits2 .ensures) (c .before .before .if2 .taken))))))
 
 fits-requires-2 : tie.Need-fits-requires-2
@@ -69,8 +71,10 @@ returns-3 c =
     let fits3 = c .before .before .before .fits3 in
     c .answer3 .ensures
     ∙ rw (c .before .no-device3 .ensures)
-    (sym (ap answerOf (open-short-send (a .s) (lends (now (a .queue)) (now (a .send)) []) (rw (fresh-device .ensures) at (said (is-good .ensures) (if1 .left)))
-    (rw (fresh-device .ensures) at (said (fits2 .ensures) (if2 .left))) (rw (fresh-device .ensures) at (denied (fits3 .ensures) (c .before .before .if3 .taken))))))
+    (sym (ap answerOf (open-short-send (a .s) (lends (now (a .queue)) (now (a .send)) [])
+    (rw (fresh-device .ensures) at (said (is-good .ensures) (if1 .left)))
+    (rw (fresh-device .ensures) at (said (fits2 .ensures) (if2 .left)))
+    (rw (fresh-device .ensures) at (denied (fits3 .ensures) (c .before .before .if3 .taken))))))
 
 answer-requires-4 : tie.Need-answer-requires-4
 answer-requires-4 c κs = search needs
@@ -86,8 +90,10 @@ returns-4 c =
     let if2 = c .before .before .before .if2 in
     c .answer4 .ensures
     ∙ rw (fresh-device .ensures)
-    (sym (ap answerOf (open-good (a .s) (lends (now (a .queue)) (now (a .send)) []) (rw (fresh-device .ensures) at (said (is-good .ensures) (if1 .left)))
-    (rw (fresh-device .ensures) at (said (fits2 .ensures) (if2 .left))) (rw (fresh-device .ensures) at (said (c .before .before .fits3 .ensures) (c .before .if3 .left))))))
+    (sym (ap answerOf (open-good (a .s) (lends (now (a .queue)) (now (a .send)) [])
+    (rw (fresh-device .ensures) at (said (is-good .ensures) (if1 .left)))
+    (rw (fresh-device .ensures) at (said (fits2 .ensures) (if2 .left)))
+    (rw (fresh-device .ensures) at (said (c .before .before .fits3 .ensures) (c .before .if3 .left))))))
 
 pub open-spec : {M : Type 1} → statement M
 open-spec =

@@ -18,10 +18,12 @@ returns : tie.Need-returns
 returns c =
     let met = c .before .before .before .before .before .carry .ensures in
     let a = c .before .before .before .before .before .before .before .before .before .before .args in
-    let next = built (carried-next (a .o .raised) (a .d .receive) (now (a .queue))) (met .number) (c .before .before .after-raise .ensures) in
+    let next = built (carried-next (a .o .raised) (a .d .receive) (now (a .queue))) (met .number)
+    (c .before .before .after-raise .ensures) in
     let d = withSend (a .d) (a .o .send) in
     record {
-      answer = c .answer .ensures ∙ ap (answers (a .o .number) (a .o .value)) (c .before .with-channels .ensures ∙ ap (withReceive d) next);
+      answer = c .answer .ensures ∙ ap (answers (a .o .number) (a .o .value))
+          (c .before .with-channels .ensures ∙ ap (withReceive d) next);
       queue-bytes = met .table;
     }
 

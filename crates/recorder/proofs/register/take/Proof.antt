@@ -20,7 +20,8 @@ returns c =
     rw (denied (c .before .receive-ready .ensures) (c .if1 .taken)) (record { answer = refl; queue-bytes = refl })
 
 carry-requires : tie.Need-carry-requires
-carry-requires c κs = said (c .before .before .before .before .before .before .receive-ready .ensures) (c .before .before .before .before .before .if1 .left)
+carry-requires c κs = said (c .before .before .before .before .before .before .receive-ready .ensures)
+    (c .before .before .before .before .before .if1 .left)
 
 after-raise-requires : tie.Need-after-raise-requires
 after-raise-requires c κs =
@@ -36,10 +37,12 @@ returns-2 c =
     let a = past .before .before .before .before .before .args in
     let l = lends (now (a .queue)) (now (a .send)) [] in
     let met = c .before .before .before .before .carry .ensures in
-    let next = built (carried-next (o .raised) (a .d .receive) (now (a .queue))) (met .number) (c .before .after-raise .ensures) in
+    let next = built (carried-next (o .raised) (a .d .receive) (now (a .queue))) (met .number)
+    (c .before .after-raise .ensures) in
     let after = c .with-channels .ensures ∙ ap (withReceive (withSend (a .d) (o .send))) next in
     let other = take-raises (a .d .shared) (a .d .send) (a .tick) (now (a .send)) in
-    taken-met (Outbox.taken (a .d .shared) (a .d .send) (a .tick) (now (a .send))) (a .d) l _ _ ready other o (past .take .ensures) after (met .table)
+    taken-met (Outbox.taken (a .d .shared) (a .d .send) (a .tick) (now (a .send))) (a .d) l _ _ ready other o
+    (past .take .ensures) after (met .table)
 
 pub take-spec : {M : Type 1} → statement M
 take-spec =

@@ -16,7 +16,11 @@ is-receive-requires c κs = search needs
 
 returns-2 : tie.Need-returns-2
 unfolding good
-returns-2 c = rw (said (c .before .before .before .before .is-shared .ensures) (c .before .before .before .if1 .left), denied (c .before .is-receive .ensures) (c .if2 .taken))
+returns-2 c = rw (
+  said (c .before .before .before .before .is-shared .ensures)
+      (c .before .before .before .if1 .left),
+  denied (c .before .is-receive .ensures) (c .if2 .taken),
+)
 
 is-send-requires : tie.Need-is-send-requires
 is-send-requires c κs = search needs
@@ -27,7 +31,8 @@ returns-3 c =
     let is-shared = c .before .before .before .before .before .before .is-shared in
     let if1 = c .before .before .before .before .before .if1 in
     let is-receive = c .before .before .before .is-receive in
-    rw (said (is-shared .ensures) (if1 .left), said (is-receive .ensures) (c .before .before .if2 .left)) (c .is-send .ensures)
+    rw (said (is-shared .ensures) (if1 .left), said (is-receive .ensures) (c .before .before .if2 .left))
+    (c .is-send .ensures)
 
 pub is-good-spec : {M : Type 1} → statement M
 is-good-spec =

@@ -13,14 +13,16 @@ returns : tie.Need-returns
 returns c =
     let p = c .before .before .before in
     let a = p .before .before in
-    kept (now (a .args .b)) _ (a .args .n) _ _ (a .pre) (λ i. p .before .shared-slice-known .given i .fits) (p .long-of .ensures)
+    kept (now (a .args .b)) _ (a .args .n) _ _ (a .pre) (λ i. p .before .shared-slice-known .given i .fits)
+    (p .long-of .ensures)
     (c .before .power .ensures) (c .bytes-of .ensures)
 
 returns-2 : tie.Need-returns-2
 returns-2 c =
     let p = c .before .before in
     let a = p .before .before in
-    all-kept (now (a .args .b)) _ (a .args .n) _ (a .pre) (λ i. p .before .shared-slice-known .given i .fits) (c .before .if1 .left)
+    all-kept (now (a .args .b)) _ (a .args .n) _ (a .pre) (λ i. p .before .shared-slice-known .given i .fits)
+    (c .before .if1 .left)
     (p .long-of .ensures) (c .bytes-of2 .ensures)
 
 pub keep-first-spec : {M : Type 1} → statement M

@@ -9,7 +9,8 @@ returns : tie.Need-returns
 returns c =
     let p = c .before .before .before .before .before .before .before in
     let a = p .before .before .before .before .before .before in
-    halves (now (a .args .b)) _ _ (a .pre) (c .before .wide .ensures ∙ p .number-of .ensures) (c .wide2 .ensures ∙ c .before .before .number-of2 .ensures)
+    halves (now (a .args .b)) _ _ (a .pre) (c .before .wide .ensures ∙ p .number-of .ensures)
+    (c .wide2 .ensures ∙ c .before .before .number-of2 .ensures)
 
 pub long-of-spec : {M : Type 1} → statement M
 long-of-spec =

@@ -13,7 +13,11 @@ returns-2 : tie.Need-returns-2
 unfolding goodMessage
 returns-2 c =
     let p = c .before .before .before .before in
-    simp (eq-eqb _ _ (sym (p .before .header-refusal .ensures) ∙ p .if1 .left), c .zero-past .ensures, c .before .carried-by .ensures)
+    simp (
+      eq-eqb _ _ (sym (p .before .header-refusal .ensures) ∙ p .if1 .left),
+      c .zero-past .ensures,
+      c .before .carried-by .ensures,
+    )
 
 pub is-good-spec : {M : Type 1} → statement M
 is-good-spec =

@@ -14,7 +14,13 @@ returns-2 c = simp (eq-eqb _ _ (c .before .before .if1 .left), ne-eqb _ _ (c .if
 
 returns-3 : tie.Need-returns-3
 unfolding isMessage
-returns-3 c = simp (eq-eqb _ _ (c .before .before .before .before .if1 .left), eq-eqb _ _ (c .before .before .if2 .left), c .is-good .ensures, c .before .message-in .ensures)
+returns-3 c = simp (
+  eq-eqb _ _ (c .before .before .before .before .if1 .left),
+  eq-eqb _ _
+      (c .before .before .if2 .left),
+  c .is-good .ensures,
+  c .before .message-in .ensures,
+)
 
 pub is-message-spec : {M : Type 1} → statement M
 is-message-spec =

@@ -11,7 +11,8 @@ unfolding judgeMessage
 returns c = simp (denied (c .before .before .is-message .ensures) (c .before .if1 .taken), c .no-message .ensures)
 
 message-in-requires : tie.Need-message-in-requires
-message-in-requires c κs = message-tests (now (c .before .before .before .args .s)) (said (c .before .is-message .ensures) (c .if1 .left)) .0
+message-in-requires c κs = message-tests (now (c .before .before .before .args .s))
+    (said (c .before .is-message .ensures) (c .if1 .left)) .0
 
 returns-2 : tie.Need-returns-2
 unfolding judgeMessage

@@ -13,7 +13,8 @@ returns-2 c =
     let p = c .before .before .before .before .before .before .before in
     let h = p .before .before .before .before in
     let a = h .before .before .before .args in
-    message-written (a .m) (now (a .slot)) _ _ _ (h .before .if1 .left) (search needs) (h .header-bytes .ensures) (p .copy .ensures) (c .before .before .copy2 .ensures)
+    message-written (a .m) (now (a .slot)) _ _ _ (h .before .if1 .left) (search needs) (h .header-bytes .ensures)
+    (p .copy .ensures) (c .before .before .copy2 .ensures)
 
 pub write-message-spec : {M : Type 1} → statement M
 write-message-spec =
