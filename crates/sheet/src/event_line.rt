@@ -8,43 +8,41 @@ use recorder::receiving;
 fn write_room(said: &[u8], number: u32) {
     show::words::says(said);
     show::write_number(number);
-    show::write_text(b"\n");
+    show::end_line();
 }
 
-fn read_short(d: Device, queue: &[u8]) -> Device {
-    let mut room = [0u8; 79];
-    let r = receiving::read_text(d, queue, &mut room);
-    write_room(b"Room 79 refused", r.number);
-    r.device
-}
-
-// Reads into a room and answers the length.
-fn read(d: Device, said: &[u8], queue: &[u8], room: &mut [u8]) -> usize {
-    let r = receiving::read_text(d, queue, room);
-    write_room(said, r.number);
-    r.value
-}
-
-fn read_whole(d: Device, queue: &[u8]) {
-    let mut room = [0u8; 80];
-    let length = read(d, b"80 good", queue, &mut room);
+fn write_line(number: u32, line: [u8; 80], length: usize) {
+    write_room(b"80 good", number);
     show::words::says(b"`received` TAB `0:12568` TAB `00000112` TAB `1` TAB `0` TAB `5` LF");
-    show::write_front(&room, length);
+    show::write_front(&line, length);
 }
 
-// The event behind one that was kept and five that were lost, so that it has lost 5.
-fn raise(queue: &mut [u8]) -> Device {
-    let emptied = queueing::play(b"123456-", false, queue);
+fn read_line(d: Device, queue: [u8; 32]) {
+    let mut room = [0u8; 80];
+    let good = receiving::read_text(d, &queue, &mut room);
+    write_line(good.number, room, good.value);
+}
+
+fn write_short(number: u32) {
+    write_room(b"Room 79 refused", number);
+}
+
+fn read_short(d: Device, queue: [u8; 32]) {
+    let refused = receiving::read_text(d, &queue, &mut [0u8; 79]);
+    write_short(refused.number);
+    read_line(refused.device, queue);
+}
+
+fn raise(d: Device, table: [u8; 32]) {
+    let mut queue = table;
     let m = setting::frame(0x112, 1, 0, 0, 0);
-    setting::receive(emptied, 12568, m, queue)
+    let raised = receiving::raise(d, 1, 12568, m, &mut queue);
+    read_short(raised.device, queue);
 }
 
-fn line(queue: &mut [u8]) {
-    let raised = raise(queue);
-    let refused = read_short(raised, queue);
-    read_whole(refused, queue);
-}
-
+// One event kept and five lost, so that the event behind them has lost 5.
 pub fn cases() {
-    line(&mut [0u8; 32]);
+    let mut queue = [0u8; 32];
+    let emptied = queueing::play(b"123456-", false, &mut queue);
+    raise(emptied.device, queue);
 }

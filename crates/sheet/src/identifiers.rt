@@ -7,9 +7,9 @@ use recorder::receiving;
 
 // Prints raw identifier 731.
 fn print(align: u32, out: &mut [u8]) -> Printed {
-    let d = setting::receiver(align, 0, 0, &[0u8; 32]);
+    let opened = setting::open(align, 0, 0, 1);
     let m = setting::frame(0x731, 0, 0, 0, 0);
-    printing::print_message(d, m, out)
+    printing::print_message(opened.device, m, out)
 }
 
 fn shown(said: &[u8], align: u32) {
@@ -24,22 +24,22 @@ fn shown(said: &[u8], align: u32) {
 }
 
 // Raises frame 200 as received.
-fn raise(dlc: u32, first: u8, queue: &mut [u8]) -> u32 {
-    let d = setting::receiver(0, 0x40000100, 0x000000FF, queue);
+fn raise(dlc: u32, first: u8) -> u32 {
+    let opened = setting::open(0, 0x40000100, 0x000000FF, 1);
     let m = setting::frame(0x200, 0, dlc, first, 7);
-    let raised = receiving::raise(d, 1, 0, m, queue);
+    let raised = receiving::raise(opened.device, 1, 0, m, &mut [0u8; 32]);
     raised.number
 }
 
 fn met(said: &[u8], dlc: u32, first: u8) {
     show::words::says(said);
-    show::words::write_raised(raise(dlc, first, &mut [0u8; 32]));
+    show::words::write_raised(raise(dlc, first));
 }
 
 // Counts the standard identifiers let through at Align 1.
 fn count(code: u32, mask: u32) -> Through {
-    let d = setting::receiver(1, code, mask, &[0u8; 32]);
-    receiving::identifiers_through(d, 1)
+    let opened = setting::open(1, code, mask, 1);
+    receiving::identifiers_through(opened.device, 1)
 }
 
 fn through(said: &[u8], code: u32, mask: u32) {
@@ -50,7 +50,7 @@ fn through(said: &[u8], code: u32, mask: u32) {
         return;
     }
     show::write_number(counted.count);
-    show::write_text(b"\n");
+    show::end_line();
 }
 
 fn aligned() {

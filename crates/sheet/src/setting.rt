@@ -1,7 +1,6 @@
 // The device of a case, and its frames.
 use ids::Header;
-use recorder::Device;
-use recorder::receiving;
+use recorder::Answer;
 use records::Message;
 use settings::Settings;
 
@@ -21,17 +20,11 @@ fn settings(align: u32, code: u32, mask: u32, capacity: u32) -> Settings {
     }
 }
 
-// A device over the whole of two lent tables; one that was refused is refused by every call.
-pub fn open(align: u32, code: u32, mask: u32, queue: &[u8], send: &[u8]) -> Device {
-    let capacity = show::counted(queue.len() / 32);
-    let opened = recorder::opening::open(settings(align, code, mask, capacity), queue, send);
-    opened.device
-}
-
-// A device of a case that sends nothing.
-pub fn receiver(align: u32, code: u32, mask: u32, queue: &[u8]) -> Device {
-    let send = [0u8; 16];
-    open(align, code, mask, queue, &send)
+// Opens a device of capacity 1 or 2; no byte of the tables is written, so that each case lends its own to the calls.
+pub fn open(align: u32, code: u32, mask: u32, capacity: u32) -> Answer {
+    let s = settings(align, code, mask, capacity);
+    let table = [0u8; 64];
+    recorder::opening::open(s, &table, &table)
 }
 
 // A standard frame that holds two bytes.
@@ -47,10 +40,4 @@ pub fn frame(id: u32, rtr: u32, dlc: u32, first: u8, second: u8) -> Message {
         header: h,
         bytes: b,
     }
-}
-
-// The device after a received frame.
-pub fn receive(d: Device, tick: u32, m: Message, queue: &mut [u8]) -> Device {
-    let raised = receiving::raise(d, 1, tick, m, queue);
-    raised.device
 }

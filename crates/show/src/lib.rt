@@ -64,6 +64,11 @@ pub fn write_text(text: &[u8]) {
     io::write_all(STDOUT_FILENO, text);
 }
 
+// Ends a line.
+pub fn end_line() {
+    write_text(b"\n");
+}
+
 // Writes the first n bytes of a buffer.
 pub fn write_front(buffer: &[u8], n: usize) {
     if buffer.len() < n {

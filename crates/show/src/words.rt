@@ -26,15 +26,15 @@ fn write_byte(text: &[u8], b: u8) {
     crate::write_text(text);
 }
 
-// Writes a text between quotes.
-pub fn write_quoted(text: &[u8]) {
+// Writes a text from its opening quote on, with the paper's words behind its closing one, and what sets them off.
+pub fn write_case(text: &[u8]) {
     crate::write_text(b"\"");
     let mut i = 0;
     while i < text.len() {
         write_byte(&text[i..i + 1], text[i]);
         i += 1;
     }
-    crate::write_text(b"\"");
+    crate::write_text(b" => ");
 }
 
 // Writes the number of a raise and what the paper calls it, and LF.

@@ -1,8 +1,8 @@
 use Prim.Native.Nat.{_≤_, _-_}
 use borrow.Author.Needs.{needs}
 use lib.ListN.{length}
-use Rattle.show.proofs.words.write_quoted.Statement.{statement}
-use Rattle.show.proofs.words.write_quoted.Tie as tie
+use Rattle.show.proofs.words.write_case.Statement.{statement}
+use Rattle.show.proofs.words.write_case.Tie as tie
 
 abbrev Inv-loop : tie.InvT-loop
 Inv-loop text i₀ t4 i = i ≤ length text
@@ -10,8 +10,8 @@ Inv-loop text i₀ t4 i = i ≤ length text
 abbrev μ-loop : tie.MeasureT-loop
 μ-loop text i₀ t4 i = length text - i
 
-pub write-quoted-spec : {M : Type 1} → statement M
-write-quoted-spec =
+pub write-case-spec : {M : Type 1} → statement M
+write-case-spec =
     tie.close
     (tie.spec
     Inv-loop
