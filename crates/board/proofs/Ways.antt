@@ -40,7 +40,7 @@ use Rattle.model.specs.Outbox.{take, abort}
 use Rattle.model.specs.Box.{PrintCall, printMessageRecord, printEventRecord, printMessage}
 use Rattle.model.specs.Box.{Call, onDevice, onReceive, onSend, onAlign, raise}
 use Rattle.promises.specs.Calls.{printOutcome, outcome}
-use Rattle.kept.specs.State.{stateBytes, deviceIn, isState, isPossible, counted}
+use Rattle.kept.specs.State.{stateSize, stateBytes, deviceIn, isState, isPossible, counted}
 use Rattle.kept.specs.Handing.{left, Left}
 use Rattle.kept.proofs.RoundTrip.{state-back}
 use Rattle.kept.proofs.Judged.{possible-state, possible-good, impossible-good, good-send, raise-impossible}
@@ -392,16 +392,16 @@ module _ (given s : List ℕ) (l : Lent) where
       y : opened (settingsIn given) l .number ≡ 0
       y = sym number-is ∙ z
 
-      pub open-unkept : (length s ≡ 88 → ⊥) → Called (openedOn given s l) s 2 s l
+      pub open-unkept : (length s ≡ stateSize → ⊥) → Called (openedOn given s l) s 2 s l
       unfolding openedOn isRefusal
       open-unkept k =
-          rw (eq-eqb _ settingsSize h, eq-eqb _ 0 y, ne-eqb _ 88 k)
+          rw (eq-eqb _ settingsSize h, eq-eqb _ 0 y, ne-eqb _ stateSize k)
           (record { number = refl; state-bytes = refl; lent-bytes = refl })
 
-      pub open-kept : length s ≡ 88 → {t : List ℕ} → t ≡ stateBytes (r .device) → Called (openedOn given s l) s 0 t l
+      pub open-kept : length s ≡ stateSize → {t : List ℕ} → t ≡ stateBytes (r .device) → Called (openedOn given s l) s 0 t l
       unfolding openedOn isRefusal
       open-kept k w =
           let device = ap (λ (x : Answer). x .device) (rw e at a) in
           let lent = open-says (settingsIn given) l .1 in
-          rw (eq-eqb _ settingsSize h, eq-eqb _ 0 y, eq-eqb _ 88 k)
+          rw (eq-eqb _ settingsSize h, eq-eqb _ 0 y, eq-eqb _ stateSize k)
           (record { number = sym y; state-bytes = w ∙ rw (y, device); lent-bytes = lent })

@@ -30,7 +30,7 @@ use Rattle.model.specs.Box.{Box}
 use Rattle.promises.specs.Typed.{Word}
 use Rattle.promises.specs.Stands.{All, Receives, Register, Sends, Stands}
 use Rattle.kept.specs.State.{sharedNumbers, receiveNumbers, sendNumbers, numbers, words, stateBytes, word}
-use Rattle.kept.specs.State.{deviceIn, isState}
+use Rattle.kept.specs.State.{stateSize, deviceIn, isState}
 use Rattle.kept.proofs.RoundTrip.{word-words, device-back}
 
 -- ---- lists of 32-bit numbers
@@ -129,9 +129,9 @@ device-state : (d : Device) → All Word (numbers d) → length (d .send .messag
 unfolding isState stateBytes
 device-state d w l =
     let b = d .send .message .bytes in
-    let long : length (words (numbers d) ++ b) ≡ 88 = length-append (words (numbers d)) b ∙ rw l in
+    let long : length (words (numbers d) ++ b) ≡ stateSize = length-append (words (numbers d)) b ∙ rw l in
     let held = word-words (numbers d) b 15 (omega arith) (words-below (numbers d) w 15) in
-    rw (eq-eqb (length (words (numbers d) ++ b)) 88 long, held)
+    rw (eq-eqb (length (words (numbers d) ++ b)) stateSize long, held)
     (le-leb (pick (d .send .held) 1 0) 1 (held-below (d .send .held)))
 
 -- THEOREM. A device that stands for a box is kept whole: its 88 bytes are a state, and stand for it

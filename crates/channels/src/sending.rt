@@ -5,6 +5,7 @@ use common::rings;
 use records::Message;
 ghost use mathlib.Core.Path.{_≡_};
 ghost use Prim.Native.Nat.{_≤_, _<_};
+ghost use Rattle.common.specs.Rings.{mostSlots};
 ghost use Rattle.channels.specs.Sending.{goodSend, sendFits, withRing, afterTake, afterDone, afterAbort};
 
 // The bytes of a slot, and the most slots.
@@ -53,7 +54,7 @@ pub fn with_ring(s: Send, ring: Ring) -> Send
 
 // The oldest message moved to the register.
 pub fn after_take(s: Send, m: Message) -> Send
-    requires { ⌜ (s .ring .capacity ≤ 2048) × (s .ring .first < s .ring .capacity) × (0 < s .ring .count) ⌝ }
+    requires { ⌜ (s .ring .capacity ≤ mostSlots) × (s .ring .first < s .ring .capacity) × (0 < s .ring .count) ⌝ }
     ensures { λ n. ⌜ n ≡ afterTake s m ⌝ }
 {
     let ring = s.ring;

@@ -9,7 +9,8 @@ ghost use Prim.Native.Nat.{ℕ, _+_, _-_, _^_, _≤_, _<_};
 ghost use lib.Dec.{eqb};
 ghost use Rattle.common.specs.Choice.{pick};
 ghost use Rattle.ids.specs.Ids.{bit, isFormat, idBits};
-ghost use Rattle.ids.specs.Filters.{isFilter, filterLow, fieldMeets, byteMeets, idPasses, dataPasses, modeTakes, framePasses, freeBits, letThrough};
+ghost use Rattle.ids.specs.Filters.{isFilter, filterLow, fieldMeets, byteMeets, idPasses, dataPasses};
+ghost use Rattle.ids.specs.Filters.{modeTakes, framePasses, freeBits, letThrough};
 
 // An Align from 0 to 3 and a MaskActive of 0 or 1.
 fn is_filter(align: u32, active: u32) -> bool

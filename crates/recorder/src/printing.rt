@@ -20,7 +20,8 @@ fn refuse(number: u32) -> Printed
 
 // Prints a message record.
 pub fn print_message_record(d: Device, s: &[u8], out: &mut [u8]) -> Printed
-    ensures { λ r. ⌜ PrintMet (messageRecordPrinted (now (s .entry)) d (lends [] [] (now (out .entry)))) r (now (out .exit)) ⌝ }
+    ensures { λ r. ⌜ PrintMet (messageRecordPrinted (now (s .entry)) d (lends [] [] (now (out .entry))))
+        r (now (out .exit)) ⌝ }
 {
     if !state::is_good(d) {
         return refuse(2);
@@ -31,7 +32,8 @@ pub fn print_message_record(d: Device, s: &[u8], out: &mut [u8]) -> Printed
 
 // Prints an event record.
 pub fn print_event_record(d: Device, s: &[u8], out: &mut [u8]) -> Printed
-    ensures { λ r. ⌜ PrintMet (eventRecordPrinted (now (s .entry)) d (lends [] [] (now (out .entry)))) r (now (out .exit)) ⌝ }
+    ensures { λ r. ⌜ PrintMet (eventRecordPrinted (now (s .entry)) d (lends [] [] (now (out .entry))))
+        r (now (out .exit)) ⌝ }
 {
     if !state::is_good(d) {
         return refuse(2);

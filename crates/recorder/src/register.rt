@@ -15,7 +15,7 @@ ghost use Rattle.inbox.specs.Calls.{RaiseMet};
 ghost use Rattle.recorder.specs.Outcomes.{lends, QueueMet, TakeMet};
 ghost use Rattle.recorder.specs.Sending.{carriedPast, EmptiedMet, taken, finished, aborted};
 
-// Carries the event that a call raised, if any (code 0 is none), past the filter, which only code 1 meets: answers its number.
+// Carries the event that a call raised, if any (code 0 is none), to the queue; only code 1 would meet the filter.
 fn carry(r: Receive, e: Raised, queue: &mut [u8]) -> u32
     requires { ⌜ usable r (now queue) ≡ true ⌝ }
     ensures { λ n. ⌜ RaiseMet (carriedPast e r (now (queue .entry))) n (now (queue .exit)) ⌝ }
@@ -30,7 +30,8 @@ fn carry(r: Receive, e: Raised, queue: &mut [u8]) -> u32
 // What done and abort answer, with the event carried to the queue.
 fn emptied(d: Device, o: Emptied, queue: &mut [u8]) -> Answer
     requires { ⌜ usable (d .receive) (now queue) ≡ true ⌝ }
-    ensures { λ r. ⌜ EmptiedMet d o (carriedPast (o .raised) (d .receive) (now (queue .entry))) r (now (queue .exit)) ⌝ }
+    ensures { λ r. ⌜ EmptiedMet d o (carriedPast (o .raised) (d .receive) (now (queue .entry)))
+        r (now (queue .exit)) ⌝ }
 {
     let next = o.send;
     let receive = d.receive;
@@ -41,7 +42,8 @@ fn emptied(d: Device, o: Emptied, queue: &mut [u8]) -> Answer
 
 // Moves the oldest message to the register.
 pub fn take(d: Device, tick: u32, send: &[u8], queue: &mut [u8]) -> Taken
-    ensures { λ r. ⌜ TakeMet (taken tick d (lends (now (queue .entry)) (now (send .entry)) [])) r (now (queue .exit)) ⌝ }
+    ensures { λ r. ⌜ TakeMet (taken tick d (lends (now (queue .entry)) (now (send .entry)) []))
+        r (now (queue .exit)) ⌝ }
 {
     if !state::receive_ready(d, queue.len()) {
         let b = [0u8; 16];

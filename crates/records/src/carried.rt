@@ -1,4 +1,4 @@
-// The eight data bytes of a frame, of which it carries the first n: handled as one number, so that no byte is looked at alone.
+// The eight data bytes of a frame, of which it carries the first n: one number, so that no byte is looked at alone.
 ghost use mathlib.Core.Path.{_≡_};
 ghost use mathlib.Core.List.{_++_};
 ghost use Prim.Native.Nat.{_-_, _^_, _<_};

@@ -7,7 +7,8 @@ ghost use mathlib.Core.Path.{_≡_};
 ghost use lib.ListN.{length};
 ghost use lib.Dec.{eqb};
 ghost use Rattle.common.specs.Choice.{pick};
-ghost use Rattle.records.specs.Messages.{stored, goodMessage, headerBytes, messageBytes, messageIn, isMessage, noMessage, judgeMessage};
+ghost use Rattle.records.specs.Messages.{messageSize, stored, goodMessage, headerBytes, messageBytes};
+ghost use Rattle.records.specs.Messages.{messageIn, isMessage, noMessage, judgeMessage};
 
 // The bytes of a message's slot.
 pub const MESSAGE: usize = 16;
@@ -64,7 +65,8 @@ fn header_bytes(h: Header) -> [u8; 8]
 
 // Writes a lent slot of 16 bytes; a part of another length stays as it is.
 pub fn write_message(slot: &mut [u8], m: Message)
-    ensures { λ _. ⌜ now (slot .exit) ≡ pick (eqb (length (now (slot .entry))) 16) (messageBytes m) (now (slot .entry)) ⌝ }
+    ensures { λ _. ⌜ now (slot .exit)
+        ≡ pick (eqb (length (now (slot .entry))) messageSize) (messageBytes m) (now (slot .entry)) ⌝ }
 {
     if slot.len() != MESSAGE {
         return;
