@@ -3,7 +3,8 @@ mod input;
 mod page;
 mod sending;
 
-use recorder::Device;
+use recorder::Answer;
+use sending::Step;
 ghost use Prim.Native.Nat.{_≤_, _<_};
 
 // The bytes used of those there are: where none were used, as on refusal 6, there is nothing left to send.
@@ -20,18 +21,35 @@ fn used_of(used: usize, length: usize) -> usize
 }
 
 // Sends the texts one behind the other: what follows the bytes used is handed on as a part.
-fn run(opened: Device, texts: &[u8], queue: &mut [u8], send: &mut [u8], lines: &mut [u8]) {
-    let mut device = opened;
+fn run(mut step: Step, texts: &[u8]) {
+    let mut send = [0u8; 16];
+    let mut lines = io::buffer();
     let mut rest = &texts[0..];
     let mut at: usize = 0;
     while 0 < rest.len() {
-        let step = sending::send_one(device, rest, queue, send);
-        at = page::put_line(lines, at, step.line);
-        device = step.device;
+        step = sending::send_one(step.device, rest, &mut send);
+        at = page::put_line(&mut lines, at, step.line);
         let used = used_of(step.used, rest.len());
         rest = &rest[used..];
     }
-    show::write_front(lines, at);
+    show::write_front(&lines, at);
+}
+
+fn say_no_device() {
+    show::write_text(b"no device can be opened\n");
+}
+
+// Runs on a device, where one was opened.
+fn start(opened: Answer, texts: &[u8]) {
+    if opened.number != 0 {
+        say_no_device();
+        return;
+    }
+    run(sending::before(opened.device), texts);
+}
+
+fn send_all(texts: &[u8]) {
+    start(sending::open(), texts);
 }
 
 fn main() {
@@ -42,14 +60,5 @@ fn main() {
         return;
     }
     let n = got.length;
-    let mut queue = [0u8; 32];
-    let mut send = [0u8; 16];
-    let opened = recorder::opening::open(sending::settings(), &queue, &send);
-    if opened.number != 0 {
-        show::write_text(b"no device can be opened\n");
-        return;
-    }
-    let device = opened.device;
-    let mut lines = io::buffer();
-    run(device, &text[0..n], &mut queue, &mut send, &mut lines);
+    send_all(&text[0..n]);
 }

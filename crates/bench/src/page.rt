@@ -23,13 +23,18 @@ fn room(length: usize, at: usize) -> usize {
     length - at
 }
 
-// Puts a line behind those that are there, which are written first where there is no room for it.
-pub fn put_line(lines: &mut [u8], at: usize, line: Line) -> usize {
-    let b = line.bytes;
-    let n = line.length;
+// The place of a line of n bytes: the lines that are there are written where there is no room behind them.
+fn place(lines: &[u8], at: usize, n: usize) -> usize {
     if n <= room(lines.len(), at) {
-        return put_at(lines, at, &b, n);
+        return at;
     }
     show::write_front(lines, at);
-    put_at(lines, 0, &b, n)
+    0
+}
+
+// Puts a line behind those that are there.
+pub fn put_line(lines: &mut [u8], at: usize, line: Line) -> usize {
+    let from = place(lines, at, line.length);
+    let b = line.bytes;
+    put_at(lines, from, &b, line.length)
 }

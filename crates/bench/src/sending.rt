@@ -1,5 +1,7 @@
 // One message text, sent and taken again.
+use recorder::Answer;
 use recorder::Device;
+use recorder::Taken;
 use recorder::register;
 use settings::Settings;
 use show::Line;
@@ -12,7 +14,7 @@ pub struct Step {
 }
 
 // Mode 0, Align 0, MaskActive 0; no event is recorded; one place in each ring is enough.
-pub fn settings() -> Settings {
+fn settings() -> Settings {
     Settings {
         mode: 0,
         format: 0,
@@ -27,8 +29,12 @@ pub fn settings() -> Settings {
     }
 }
 
-fn refused(number: u32, used: usize, d: Device) -> Step {
-    let line = show::refused_line(number, show::counted(used));
+// Opens a device; no byte of the tables is written, so that others are lent to the calls.
+pub fn open() -> Answer {
+    recorder::opening::open(settings(), &[0u8; 32], &[0u8; 16])
+}
+
+fn step_of(line: Line, used: usize, d: Device) -> Step {
     Step {
         line: line,
         used: used,
@@ -36,26 +42,41 @@ fn refused(number: u32, used: usize, d: Device) -> Step {
     }
 }
 
-// Sends the text at the front, and takes its message so that the buffer is empty again.
-pub fn send_one(d: Device, text: &[u8], queue: &mut [u8], send: &mut [u8]) -> Step {
-    let sent = recorder::sending::send_text(d, text, send);
-    let used = sent.value;
-    let buffered = sent.device;
-    if sent.number != 0 {
-        return refused(sent.number, used, buffered);
-    }
-    let taken = register::take(buffered, 0, send, queue);
-    let held = taken.device;
+// The step before the first text.
+pub fn before(d: Device) -> Step {
+    let b = [0u8; 40];
+    let line = Line {
+        bytes: b,
+        length: 0,
+    };
+    step_of(line, 0, d)
+}
+
+fn refused(number: u32, used: usize, d: Device) -> Step {
+    step_of(show::refused_line(number, show::counted(used)), used, d)
+}
+
+// Empties the register, so that the next message can be taken; no event is recorded, so that any queue will do.
+fn finish(taken: Taken, used: usize) -> Step {
     if taken.number != 0 {
-        return refused(taken.number, used, held);
+        return refused(taken.number, used, taken.device);
     }
+    let finished = register::done(taken.device, 0, &mut [0u8; 32]);
     let b = taken.bytes;
-    let line = show::record_line(b);
-    let finished = register::done(held, 0, queue);
-    let emptied = finished.device;
-    Step {
-        line: line,
-        used: used,
-        device: emptied,
+    step_of(show::record_line(b), used, finished.device)
+}
+
+// Takes the message of a text that was sent, so that the buffer is empty again.
+fn take(sent: Answer, send: &[u8]) -> Step {
+    if sent.number != 0 {
+        return refused(sent.number, sent.value, sent.device);
     }
+    let taken = register::take(sent.device, 0, send, &mut [0u8; 32]);
+    finish(taken, sent.value)
+}
+
+// Sends the text at the front, and takes its message.
+pub fn send_one(d: Device, text: &[u8], send: &mut [u8]) -> Step {
+    let sent = recorder::sending::send_text(d, text, send);
+    take(sent, send)
 }

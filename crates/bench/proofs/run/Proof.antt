@@ -7,13 +7,15 @@ use Rattle.bench.proofs.run.Statement.{statement}
 use Rattle.bench.proofs.run.Tie as tie
 
 abbrev Inv-loop : tie.InvT-loop
-Inv-loop texts queue₀ send₀ lines₀ device₀ rest₀ at₀ queue send lines device rest at = (length queue ≡ length queue₀) × (length send ≡ length send₀) × (length lines ≡ length lines₀)
+Inv-loop step₀ texts send₀ lines₀ rest₀ at₀ step send lines rest at = (length send ≡ 16) × (length lines ≡ 4096)
 
 abbrev μ-loop : tie.MeasureT-loop
-μ-loop texts queue₀ send₀ lines₀ device₀ rest₀ at₀ queue send lines device rest at = length rest
+μ-loop step₀ texts send₀ lines₀ rest₀ at₀ step send lines rest at = length rest
 
 loop-less : tie.Need-loop-less Inv-loop μ-loop
-loop-less c = omega (arith, c .before .used-of .ensures .1 (c .before .before .before .before .before .before .before .before .before .before .before .before .before .before .loop-test .taken))
+loop-less c =
+    let text = c .before .before .before .before .before .before .before .before in
+    omega (arith, c .before .used-of .ensures .1 (text .loop-test .taken))
 
 pub run-spec : {M : Type 1} → statement M
 run-spec =
@@ -21,11 +23,14 @@ run-spec =
     (tie.spec
     Inv-loop
     μ-loop
+    (λ c κs. search needs)
+    (λ c. search needs)
     (λ c. search needs)
     (λ c. search needs)
     (λ c. search needs)
     (λ c. search needs)
     (λ c κs. search needs)
+    (λ c. search needs)
     (λ c κs. search needs)
     (λ c κs. search needs)
     (λ c. search needs)
@@ -33,8 +38,6 @@ run-spec =
     (λ c. search needs)
     loop-less
     (λ c. search needs)
+    (λ c. search needs)
     (λ c κs. search needs)
-    (λ c. search needs)
-    (λ c. search needs)
-    (λ c. search needs)
     (λ c. search needs))
