@@ -8,18 +8,6 @@ use borrow.Author.Needs.{needs}
 use Rattle.recorder.proofs.opening.open.Statement.{statement}
 use Rattle.recorder.proofs.opening.open.Tie as tie
 
-fresh-device-requires : tie.Need-fresh-device-requires
-fresh-device-requires c κs = search needs
-
-is-good-requires : tie.Need-is-good-requires
-is-good-requires c κs = search needs
-
-no-device-requires : tie.Need-no-device-requires
-no-device-requires c κs = search needs
-
-answer-requires : tie.Need-answer-requires
-answer-requires c κs = search needs
-
 returns : tie.Need-returns
 returns c =
     let a = c .before .before .before .before .before .before .before .args in
@@ -28,15 +16,6 @@ returns c =
     c .answer .ensures ∙ rw (c .before .no-device .ensures)
     (sym (ap answerOf (open-bad (a .s) (lends (now (a .queue)) (now (a .send)) [])
     (rw (fresh-device .ensures) at (denied (is-good .ensures) (c .before .before .if1 .taken))))))
-
-fits-requires : tie.Need-fits-requires
-fits-requires c κs = search needs
-
-no-device-requires-2 : tie.Need-no-device-requires-2
-no-device-requires-2 c κs = search needs
-
-answer-requires-2 : tie.Need-answer-requires-2
-answer-requires-2 c κs = search needs
 
 returns-2 : tie.Need-returns-2
 returns-2 c =
@@ -49,15 +28,6 @@ returns-2 c =
     (sym (ap answerOf (open-short (a .s) (lends (now (a .queue)) (now (a .send)) [])
     (rw (fresh-device .ensures) at (said (is-good .ensures) (if1 .left)))
     (rw (fresh-device .ensures) at (denied (fits2 .ensures) (c .before .before .if2 .taken))))))
-
-fits-requires-2 : tie.Need-fits-requires-2
-fits-requires-2 c κs = search needs
-
-no-device-requires-3 : tie.Need-no-device-requires-3
-no-device-requires-3 c κs = search needs
-
-answer-requires-3 : tie.Need-answer-requires-3
-answer-requires-3 c κs = search needs
 
 returns-3 : tie.Need-returns-3
 returns-3 c =
@@ -75,9 +45,6 @@ returns-3 c =
     (rw (fresh-device .ensures) at (said (is-good .ensures) (if1 .left)))
     (rw (fresh-device .ensures) at (said (fits2 .ensures) (if2 .left)))
     (rw (fresh-device .ensures) at (denied (fits3 .ensures) (c .before .before .if3 .taken))))))
-
-answer-requires-4 : tie.Need-answer-requires-4
-answer-requires-4 c κs = search needs
 
 returns-4 : tie.Need-returns-4
 returns-4 c =
@@ -99,18 +66,18 @@ pub open-spec : {M : Type 1} → statement M
 open-spec =
     tie.close
     (tie.spec
-    fresh-device-requires
-    is-good-requires
-    no-device-requires
-    answer-requires
+    (λ c κs. search needs)
+    (λ c κs. search needs)
+    (λ c κs. search needs)
+    (λ c κs. search needs)
     returns
-    fits-requires
-    no-device-requires-2
-    answer-requires-2
+    (λ c κs. search needs)
+    (λ c κs. search needs)
+    (λ c κs. search needs)
     returns-2
-    fits-requires-2
-    no-device-requires-3
-    answer-requires-3
+    (λ c κs. search needs)
+    (λ c κs. search needs)
+    (λ c κs. search needs)
     returns-3
-    answer-requires-4
+    (λ c κs. search needs)
     returns-4)

@@ -4,15 +4,9 @@ use borrow.Author.Needs.{needs}
 use Rattle.recorder.proofs.state.is_good.Statement.{statement}
 use Rattle.recorder.proofs.state.is_good.Tie as tie
 
-is-shared-requires : tie.Need-is-shared-requires
-is-shared-requires c κs = search needs
-
 returns : tie.Need-returns
 unfolding good
 returns c = rw (denied (c .before .is-shared .ensures) (c .if1 .taken))
-
-is-receive-requires : tie.Need-is-receive-requires
-is-receive-requires c κs = search needs
 
 returns-2 : tie.Need-returns-2
 unfolding good
@@ -21,9 +15,6 @@ returns-2 c = rw (
       (c .before .before .before .if1 .left),
   denied (c .before .is-receive .ensures) (c .if2 .taken),
 )
-
-is-send-requires : tie.Need-is-send-requires
-is-send-requires c κs = search needs
 
 returns-3 : tie.Need-returns-3
 unfolding good
@@ -37,4 +28,4 @@ returns-3 c =
 pub is-good-spec : {M : Type 1} → statement M
 is-good-spec =
     tie.close
-    (tie.spec is-shared-requires returns is-receive-requires returns-2 is-send-requires returns-3)
+    (tie.spec (λ c κs. search needs) returns (λ c κs. search needs) returns-2 (λ c κs. search needs) returns-3)
