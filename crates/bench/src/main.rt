@@ -1,4 +1,4 @@
-// Sends each message text of standard input in turn and prints the message's 16 bytes, or the refusal and the bytes used.
+// Sends each message text of standard input in turn and prints the message's 16 bytes, or the refusal and bytes used.
 mod input;
 mod page;
 mod sending;

@@ -15,7 +15,9 @@ use Rattle.show.specs.Lines.{pairs, refusedLine, Holds}
 use Rattle.show.specs.declared.Line.{Line}
 
 -- a line written from the front on is held
-pub held : {o m xs : List ℕ} {p : ℕ} → Put o 0 xs m p → length xs ≤ length o → Holds xs (record { bytes = m; length = p })
+pub held :
+    {o m xs : List ℕ} {p : ℕ} → Put o 0 xs m p → length xs ≤ length o
+    → Holds xs (record { bytes = m; length = p })
 held {o} {m} {xs} {p} s h =
     let e = printed s h in
     record { length = e .1; bytes = rw (e .0) (take-at xs (drop (length xs) o) p (sym (e .1))) }
@@ -33,10 +35,13 @@ pub pairs-step :
 unfolding pairs
 pairs-step b i {out} {next} {p} h s =
     let e : 2 * (i + 1) ≡ 2 * i + length (hex 2 (getD b i 0)) = omega (arith, hex-length 2 (getD b i 0)) in
-    rw (e, drop-cons b i 0 h, add-one i, sets-append out (2 * i) (hex 2 (getD b i 0)) (pairs (drop (suc i) b)), s .bytes)
+    let joined = sets-append out (2 * i) (hex 2 (getD b i 0)) (pairs (drop (suc i) b)) in
+    rw (e, drop-cons b i 0 h, add-one i, joined, s .bytes)
 
 -- no byte is left
-pub pairs-done : {o out : List ℕ} (b : List ℕ) (i : ℕ) → sets o 0 (pairs b) ≡ sets out (2 * i) (pairs (drop i b)) → i ≤ length b → length b ≤ i → Put o 0 (pairs b) out (2 * i)
+pub pairs-done :
+    {o out : List ℕ} (b : List ℕ) (i : ℕ) → sets o 0 (pairs b) ≡ sets out (2 * i) (pairs (drop i b))
+    → i ≤ length b → length b ≤ i → Put o 0 (pairs b) out (2 * i)
 unfolding pairs
 pairs-done {o} {out} b i e h z =
     record { bytes = sym (e ∙ rw (drop-of-length-le b {i = i} z)); place = rw (pairs-length b) (omega arith) }

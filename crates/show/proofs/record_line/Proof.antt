@@ -12,7 +12,9 @@ use Rattle.show.proofs.record_line.Statement.{statement}
 use Rattle.show.proofs.record_line.Tie as tie
 
 abbrev Inv-loop : tie.InvT-loop
-Inv-loop b line₀ i₀ line i = (sets line₀ 0 (pairs b) ≡ sets line (2 * i) (pairs (drop i b))) × (i ≤ 16) × (length line ≡ 40) × (length b ≡ 16)
+Inv-loop b line₀ i₀ line i =
+    (sets line₀ 0 (pairs b) ≡ sets line (2 * i) (pairs (drop i b)))
+    × (i ≤ 16) × (length line ≡ 40) × (length b ≡ 16)
 
 abbrev μ-loop : tie.MeasureT-loop
 μ-loop b line₀ i₀ line i = 16 - i

@@ -7,12 +7,21 @@ use Rattle.show.proofs.refused_line.Statement.{statement}
 use Rattle.show.proofs.refused_line.Tie as tie
 
 put-decimal-requires : tie.Need-put-decimal-requires
-put-decimal-requires c κs = omega (arith, decimal-length-le (c .before .before .before .before .before .args .number) (search needs), c .before .before .put-text .ensures .place)
+put-decimal-requires c κs =
+    let word = c .before .before in
+    let a = word .before .before .before .args in
+    omega (arith, decimal-length-le (a .number) (search needs), word .put-text .ensures .place)
 
 put-text-requires-2 : tie.Need-put-text-requires-2
 put-text-requires-2 c κs =
-    let word = c .before .before .before .before .before .before in
-    omega (arith, decimal-length-le (word .before .before .before .args .number) (search needs), c .before .before .before .put-decimal .ensures .place, word .put-text .ensures .place)
+    let number = c .before .before .before in
+    let word = number .before .before .before in
+    omega (
+      arith,
+      decimal-length-le (word .before .before .before .args .number) (search needs),
+      number .put-decimal .ensures .place,
+      word .put-text .ensures .place,
+    )
 
 put-decimal-requires-2 : tie.Need-put-decimal-requires-2
 put-decimal-requires-2 c κs =
@@ -50,8 +59,9 @@ returns c =
     let number = used .before .before .before .before in
     let word = number .before .before .before in
     let a = word .before .before .before .args in
+    let words = then (then (word .put-text .ensures) (number .put-decimal .ensures)) (used .put-text2 .ensures) in
     held
-    (then (then (then (then (word .put-text .ensures) (number .put-decimal .ensures)) (used .put-text2 .ensures)) (c .before .before .before .before .put-decimal2 .ensures)) (c .before .put-byte .ensures))
+    (then (then words (c .before .before .before .before .put-decimal2 .ensures)) (c .before .put-byte .ensures))
     (refused-fits (a .number) (a .used) (search needs) (search needs))
 
 pub refused-line-spec : {M : Type 1} → statement M
