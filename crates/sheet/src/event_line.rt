@@ -11,24 +11,24 @@ fn write_room(said: &[u8], number: u32) {
     show::end_line();
 }
 
-fn write_line(number: u32, line: [u8; 80], length: usize) {
+fn write_line(number: u32, line: &[u8], length: usize) {
     write_room(b"80 good", number);
     show::words::says(b"`received` TAB `0:12568` TAB `00000112` TAB `1` TAB `0` TAB `5` LF");
-    show::write_front(&line, length);
+    show::write_front(line, length);
 }
 
-fn read_line(d: Device, queue: [u8; 32]) {
+fn read_line(d: Device, queue: &[u8]) {
     let mut room = [0u8; 80];
-    let good = receiving::read_text(d, &queue, &mut room);
-    write_line(good.number, room, good.value);
+    let good = receiving::read_text(d, queue, &mut room);
+    write_line(good.number, &room, good.value);
 }
 
 fn write_short(number: u32) {
     write_room(b"Room 79 refused", number);
 }
 
-fn read_short(d: Device, queue: [u8; 32]) {
-    let refused = receiving::read_text(d, &queue, &mut [0u8; 79]);
+fn read_short(d: Device, queue: &[u8]) {
+    let refused = receiving::read_text(d, queue, &mut [0u8; 79]);
     write_short(refused.number);
     read_line(refused.device, queue);
 }
@@ -37,7 +37,7 @@ fn raise(d: Device, table: [u8; 32]) {
     let mut queue = table;
     let m = setting::frame(0x112, 1, 0, 0, 0);
     let raised = receiving::raise(d, 1, 12568, m, &mut queue);
-    read_short(raised.device, queue);
+    read_short(raised.device, &queue);
 }
 
 // One event kept and five lost, so that the event behind them has lost 5.

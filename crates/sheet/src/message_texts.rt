@@ -64,39 +64,27 @@ fn case(proved: bool, words: &[u8]) {
     send(&words[..n]);
 }
 
-fn ends() {
+fn ends_and_identifiers() {
     case(true, b"731 0 4 11 22 33 44\r\n\": taken, 21 used");
     case(true, b"731 0 0\": 6");
     case(true, b"\n\": 7, 1 used");
-}
-
-fn identifiers() {
     case(true, b"7FF 0 0\n\" taken");
     case(true, b"800 0 0\n\": 8");
 }
 
-fn lengths() {
+fn other_fields() {
     case(false, b"731 0 F 1 2 3 4 5 6 7 8\n\" taken");
     case(false, b"731 0 10\n\": 10");
-}
-
-fn remote() {
     case(
         true,
         b"0x100 0 0\n\": x separates, so rtr is 100: refusal 9, 10 used",
     );
     case(true, b"731 1 4\n\" taken, no bytes");
-}
-
-fn bytes() {
     case(false, b"731 0 2 11\n\": 7");
     case(false, b"731 0 1 100\n\": 12");
 }
 
 pub fn cases() {
-    ends();
-    identifiers();
-    lengths();
-    remote();
-    bytes();
+    ends_and_identifiers();
+    other_fields();
 }

@@ -9,14 +9,21 @@ fn wide(b: u8) -> u32 {
     b as u32
 }
 
-// The name of the event in a record, and its lost count if asked for.
-fn write_event(b: [u8; 32], lost: bool) {
-    show::write_text(&b[4..5]);
+// The name of an event, and its lost count if asked for.
+fn write_event(name: u8, count: u32, lost: bool) {
+    show::write_text(&[name]);
     if !lost {
         return;
     }
     show::write_text(b" has lost ");
-    show::write_number(common::number_of(b[12], b[13], b[14], b[15]));
+    show::write_number(count);
+}
+
+// What sets an event off from the one before.
+fn write_lead(sign: u8) {
+    if sign == 44 {
+        show::write_text(b", ");
+    }
 }
 
 // What was read, as the sign says: a dot shows it, a comma sets it off from the one before, a minus leaves it out.
@@ -27,10 +34,8 @@ fn write_read(number: u32, sign: u8, b: [u8; 32], lost: bool) {
     if sign == 45 {
         return;
     }
-    if sign == 44 {
-        show::write_text(b", ");
-    }
-    write_event(b, lost);
+    write_lead(sign);
+    write_event(b[4], common::number_of(b[12], b[13], b[14], b[15]), lost);
 }
 
 fn answer(number: u32, d: Device) -> Answer {
