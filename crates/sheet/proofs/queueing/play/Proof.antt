@@ -6,10 +6,10 @@ use Rattle.sheet.proofs.queueing.play.Statement.{statement}
 use Rattle.sheet.proofs.queueing.play.Tie as tie
 
 abbrev Inv-loop : tie.InvT-loop
-Inv-loop script lost queue₀ d₀ i₀ queue d i = (i ≤ length script) × (length queue ≡ length queue₀)
+Inv-loop script lost queue₀ last₀ i₀ queue last i = (i ≤ length script) × (length queue ≡ length queue₀)
 
 abbrev μ-loop : tie.MeasureT-loop
-μ-loop script lost queue₀ d₀ i₀ queue d i = length script - i
+μ-loop script lost queue₀ last₀ i₀ queue last i = length script - i
 
 pub play-spec : {M : Type 1} → statement M
 play-spec =
