@@ -21,12 +21,13 @@
  * the brackets, or for one value), for the whole call; it is not null, even where the length is 0; and what is lent to
  * one call does not overlap, but for places that the call only reads. Calls on one state are made one at a time.
  *
- * The state: twenty 32-bit numbers, lowest byte first, then the register's eight data bytes.
+ * The state: three parts, each a list of 32-bit numbers, lowest byte first, and at the end the register's data bytes.
  *
- *     0 mode      16 code             32 queue first    48 buffer capacity   64 register id
- *     4 format    20 mask             36 queue count    52 buffer first      68 register format
- *     8 align     24 event mask       40 pending lost   56 buffer count      72 register rtr
- *    12 active    28 queue capacity   44 TxMode         60 held, 0 or 1      76 register dlc   80..87 register data
+ *    shared     0 mode, 4 format, 8 align
+ *    receive   12 mask active, 16 code, 20 mask, 24 event mask, 28 queue capacity, 32 queue first, 36 queue count,
+ *              40 pending lost
+ *    send      44 TxMode, 48 buffer capacity, 52 buffer first, 56 buffer count, 60 held (0 or 1), 64 register id,
+ *              68 register format, 72 register rtr, 76 register dlc, 80..87 register data
  *
  * A state may be copied, stored and read. Any bytes may be handed in as one: a state of another length, held above 1 or
  * numbers that no device can have are refusal 2.

@@ -29,7 +29,7 @@ use Rattle.model.specs.Outbox.{Outbox}
 use Rattle.model.specs.Box.{Box}
 use Rattle.promises.specs.Typed.{Word}
 use Rattle.promises.specs.Stands.{All, Receives, Register, Sends, Stands}
-use Rattle.kept.specs.State.{sharedNumbers, receiveNumbers, sendNumbers, numbers, words, stateBytes, word}
+use Rattle.kept.specs.State.{sharedNumbers, receiveNumbers, sendNumbers, stateNumbers, wordBytes, stateBytes, word}
 use Rattle.kept.specs.State.{stateSize, deviceIn, isState}
 use Rattle.kept.proofs.RoundTrip.{word-words, device-back}
 
@@ -115,7 +115,7 @@ send-words s t o h =
 -- ---- the device
 
 -- all twenty numbers of a device that stands for a box have 32 bits
-device-words : (d : Device) (q t : List ℕ) (b : Box) → Stands d q t b → All Word (numbers d)
+device-words : (d : Device) (q t : List ℕ) (b : Box) → Stands d q t b → All Word (stateNumbers d)
 device-words d q t b h =
     all-append Word (sharedNumbers (d .shared)) (receiveNumbers (d .receive) ++ sendNumbers (d .send))
     (shared-words (d .shared) (h .possible))
@@ -124,14 +124,15 @@ device-words d q t b h =
     (send-words (d .send) t (b .outbox) (h .outbox)))
 
 -- the bytes of such a device are a state
-device-state : (d : Device) → All Word (numbers d) → length (d .send .message .bytes) ≡ 8
+device-state : (d : Device) → All Word (stateNumbers d) → length (d .send .message .bytes) ≡ 8
     → isState (stateBytes d) ≡ true
 unfolding isState stateBytes
 device-state d w l =
     let b = d .send .message .bytes in
-    let long : length (words (numbers d) ++ b) ≡ stateSize = length-append (words (numbers d)) b ∙ rw l in
-    let held = word-words (numbers d) b 15 (omega arith) (words-below (numbers d) w 15) in
-    rw (eq-eqb (length (words (numbers d) ++ b)) stateSize long, held)
+    let long : length (wordBytes (stateNumbers d) ++ b) ≡ stateSize = length-append (wordBytes (stateNumbers d)) b
+    ∙ rw l in
+    let held = word-words (stateNumbers d) b 15 (omega arith) (words-below (stateNumbers d) w 15) in
+    rw (eq-eqb (length (wordBytes (stateNumbers d) ++ b)) stateSize long, held)
     (le-leb (pick (d .send .held) 1 0) 1 (held-below (d .send .held)))
 
 -- THEOREM. A device that stands for a box is kept whole: its 88 bytes are a state, and stand for it
@@ -140,4 +141,4 @@ pub stands-back : (d : Device) (q t : List ℕ) (b : Box) → Stands d q t b
 stands-back d q t b h =
     let w = device-words d q t b h in
     let register = register-words (d .send .held) (d .send .message) (b .outbox .register) (h .outbox .register) in
-    (device-state d w (register .1), device-back d (words-below (numbers d) w) (register .1))
+    (device-state d w (register .1), device-back d (words-below (stateNumbers d) w) (register .1))

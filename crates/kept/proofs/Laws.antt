@@ -18,8 +18,9 @@ use Rattle.digits.proofs.Written.{sets-append}
 use Rattle.records.specs.declared.Message.{Message}
 use Rattle.channels.specs.declared.Send.{Send}
 use Rattle.recorder.specs.declared.Device.{Device}
-use Rattle.kept.specs.State.{sharedNumbers, receiveNumbers, sendNumbers, registerNumbers, registerBytes, numbers}
-use Rattle.kept.specs.State.{stateSize, receiveAt, sendAt, words, stateBytes, word, deviceIn, isState}
+use Rattle.kept.specs.State.{sharedNumbers, receiveNumbers, sendNumbers, registerNumbers, registerBytes}
+use Rattle.kept.specs.State.{stateNumbers}
+use Rattle.kept.specs.State.{stateSize, receiveAt, sendAt, wordBytes, stateBytes, word, deviceIn, isState}
 use Rattle.kept.specs.State.{counted, advanced, transferred}
 use Rattle.kept.specs.Handing.{left}
 use Rattle.kept.proofs.RoundTrip.{state-back}
@@ -80,32 +81,32 @@ held-number false = refl
 pub register-written : (s : List ℕ) (held : Bool) (m : Message) (at : ℕ) {s0 s1 last : List ℕ}
     → at + 28 ≤ length s → length (m .bytes) ≡ 8
     → s0 ≡ sets s at (bytesOf 4 (boolByte held))
-    → s1 ≡ sets s0 (at + 4) (words (m .header .id ∷ m .header .format ∷ m .header .rtr ∷ m .header .dlc ∷ []))
+    → s1 ≡ sets s0 (at + 4) (wordBytes (m .header .id ∷ m .header .format ∷ m .header .rtr ∷ m .header .dlc ∷ []))
     → last ≡ take (length (behind s1 (at + 20))) (m .bytes) ++ drop (length (m .bytes)) (behind s1 (at + 20))
     → take (at + 20) s1 ++ (last ++ drop (length s1 - (at + 20)) (drop (at + 20) s1)) ≡ sets s at (registerBytes held m)
 register-written s held m at {s0} {s1} long eight e0 e1 e2 =
     let h = m .header in
-    let ns = words (registerNumbers held m) in
+    let ns = wordBytes (registerNumbers held m) in
     let w : s1 ≡ sets s at ns =
-    both-written s (bytesOf 4 (pick held 1 0)) (words (h .id ∷ h .format ∷ h .rtr ∷ h .dlc ∷ [])) at
+    both-written s (bytesOf 4 (pick held 1 0)) (wordBytes (h .id ∷ h .format ∷ h .rtr ∷ h .dlc ∷ [])) at
     (rw (held-number held) at e0) e1 in
     let l : length s1 ≡ length s = ap length w ∙ length-sets s at ns in
     both-written s ns (m .bytes) at w (copied-there s1 (m .bytes) (at + 20) (omega arith) e2)
 
 -- the three parts fill the state
 pub state-written : (s : List ℕ) (d : Device) {s0 s1 s2 : List ℕ} → length s ≡ stateSize
-    → s0 ≡ sets s 0 (words (sharedNumbers (d .shared)))
-    → s1 ≡ sets s0 receiveAt (words (receiveNumbers (d .receive)))
-    → (s2 ≡ sets s1 sendAt (words (sendNumbers (d .send)) ++ d .send .message .bytes))
+    → s0 ≡ sets s 0 (wordBytes (sharedNumbers (d .shared)))
+    → s1 ≡ sets s0 receiveAt (wordBytes (receiveNumbers (d .receive)))
+    → (s2 ≡ sets s1 sendAt (wordBytes (sendNumbers (d .send)) ++ d .send .message .bytes))
     × (length (d .send .message .bytes) ≡ 8)
     → s2 ≡ stateBytes d
 unfolding stateBytes
 state-written s d l e0 e1 (e2, m) =
-    let shared = words (sharedNumbers (d .shared)) in
-    let receive = words (receiveNumbers (d .receive)) in
-    let send = words (sendNumbers (d .send)) ++ d .send .message .bytes in
-    let all : List ℕ = words (numbers d) ++ d .send .message .bytes in
-    let n : length all ≡ stateSize = length-append (words (numbers d)) (d .send .message .bytes) ∙ rw m in
+    let shared = wordBytes (sharedNumbers (d .shared)) in
+    let receive = wordBytes (receiveNumbers (d .receive)) in
+    let send = wordBytes (sendNumbers (d .send)) ++ d .send .message .bytes in
+    let all : List ℕ = wordBytes (stateNumbers d) ++ d .send .message .bytes in
+    let n : length all ≡ stateSize = length-append (wordBytes (stateNumbers d)) (d .send .message .bytes) ∙ rw m in
     both-written s (shared ++ receive) send 0 (both-written s shared receive 0 e0 e1) e2
     ∙ sets-eq all s 0 (omega arith)
     ∙ ap (λ (r : List ℕ). all ++ r) (drop-of-length-le s {i = 0 + length all} (omega arith))
@@ -137,28 +138,28 @@ state-long s h = eqb-true (length s) stateSize (and-left (eqb (length s) stateSi
 -- numbers written over the bytes of a device are those of the device with them
 module _ (d : Device) where
   over-counted : (count pending : ℕ)
-      → sets (stateBytes d) (receiveAt + 24) (words (count ∷ pending ∷ [])) ≡ stateBytes (counted d count pending)
+      → sets (stateBytes d) (receiveAt + 24) (wordBytes (count ∷ pending ∷ [])) ≡ stateBytes (counted d count pending)
   unfolding stateBytes
   over-counted count pending = refl
 
   over-advanced : (first count : ℕ)
-      → sets (stateBytes d) (receiveAt + 20) (words (first ∷ count ∷ [])) ≡ stateBytes (advanced d first count)
+      → sets (stateBytes d) (receiveAt + 20) (wordBytes (first ∷ count ∷ [])) ≡ stateBytes (advanced d first count)
   unfolding stateBytes
   over-advanced first count = refl
 
   over-transferred : (s : Send) → length (d .send .message .bytes) ≡ 8 → length (s .message .bytes) ≡ 8
-      → sets (sets (stateBytes d) (sendAt + 8) (words (s .ring .first ∷ s .ring .count ∷ []))) (sendAt + 16)
+      → sets (sets (stateBytes d) (sendAt + 8) (wordBytes (s .ring .first ∷ s .ring .count ∷ []))) (sendAt + 16)
       (registerBytes (s .held) (s .message))
       ≡ stateBytes (transferred d s)
   unfolding stateBytes
   over-transferred s l m =
-      let new = words (numbers (transferred d s)) in
+      let new = wordBytes (stateNumbers (transferred d s)) in
       let old = d .send .message .bytes in
       let b = s .message .bytes in
       let n : length (new ++ old) ≡ 88 = length-append new old ∙ rw l in
-      let ring = words (s .ring .first ∷ s .ring .count ∷ []) in
-      sets-append (sets (words (numbers d) ++ old) (sendAt + 8) ring) (sendAt + 16)
-      (words (registerNumbers (s .held) (s .message))) b
+      let ring = wordBytes (s .ring .first ∷ s .ring .count ∷ []) in
+      sets-append (sets (wordBytes (stateNumbers d) ++ old) (sendAt + 8) ring) (sendAt + 16)
+      (wordBytes (registerNumbers (s .held) (s .message))) b
       ∙ sets-eq b (new ++ old) 80 (omega arith)
       ∙ ap (λ (r : List ℕ). new ++ b ++ r) (drop-of-length-le (new ++ old) {i = 80 + length b} (omega arith))
       ∙ append-nil (new ++ b)
@@ -168,21 +169,22 @@ module _ (s : List ℕ) (g : Bytes s) (h : isState s ≡ true) where
   back : s ≡ stateBytes (deviceIn s)
   back = sym (state-back s g h)
 
-  pub counted-written : (count pending : ℕ) {t : List ℕ} → t ≡ sets s (receiveAt + 24) (words (count ∷ pending ∷ []))
+  pub counted-written : (count pending : ℕ) {t : List ℕ}
+      → t ≡ sets s (receiveAt + 24) (wordBytes (count ∷ pending ∷ []))
       → t ≡ stateBytes (counted (deviceIn s) count pending)
   counted-written count pending e =
-      e ∙ ap (λ (u : List ℕ). sets u (receiveAt + 24) (words (count ∷ pending ∷ []))) back
+      e ∙ ap (λ (u : List ℕ). sets u (receiveAt + 24) (wordBytes (count ∷ pending ∷ []))) back
       ∙ over-counted (deviceIn s) count pending
 
-  pub advanced-written : (first count : ℕ) {t : List ℕ} → t ≡ sets s (receiveAt + 20) (words (first ∷ count ∷ []))
+  pub advanced-written : (first count : ℕ) {t : List ℕ} → t ≡ sets s (receiveAt + 20) (wordBytes (first ∷ count ∷ []))
       → t ≡ stateBytes (advanced (deviceIn s) first count)
   advanced-written first count e =
-      e ∙ ap (λ (u : List ℕ). sets u (receiveAt + 20) (words (first ∷ count ∷ []))) back
+      e ∙ ap (λ (u : List ℕ). sets u (receiveAt + 20) (wordBytes (first ∷ count ∷ []))) back
       ∙ over-advanced (deviceIn s) first count
 
   pub transferred-written : (count pending : ℕ) (x : Send) {t0 t1 t2 : List ℕ}
-      → t0 ≡ sets s (receiveAt + 24) (words (count ∷ pending ∷ []))
-      → t1 ≡ sets t0 (sendAt + 8) (words (x .ring .first ∷ x .ring .count ∷ []))
+      → t0 ≡ sets s (receiveAt + 24) (wordBytes (count ∷ pending ∷ []))
+      → t1 ≡ sets t0 (sendAt + 8) (wordBytes (x .ring .first ∷ x .ring .count ∷ []))
       → t2 ≡ sets t1 (sendAt + 16) (registerBytes (x .held) (x .message)) → length (x .message .bytes) ≡ 8
       → t2 ≡ stateBytes (transferred (counted (deviceIn s) count pending) x)
   unfolding deviceIn

@@ -23,7 +23,7 @@ use Rattle.outbox.specs.declared.Raised.{Raised}
 use Rattle.channels.specs.declared.Send.{Send}
 use Rattle.recorder.specs.Outcomes.{Lent, Outcome, answerOf, recordOf, takenOf}
 use Rattle.recorder.specs.Receiving.{raised, recordRead, textRead}
-use Rattle.recorder.specs.Sending.{carried, carrying, taken, finished, aborted}
+use Rattle.recorder.specs.Sending.{carriedOver, carrying, taken, finished, aborted}
 use Rattle.recorder.specs.declared.Device.{Device}
 use Rattle.recorder.specs.declared.Answer.{Answer}
 use Rattle.recorder.specs.declared.Record.{Record}
@@ -68,8 +68,8 @@ module _ (h : Shared) (r : Receive) (t : List ℕ) where
       pick-is (Raises r) (eqb (raiseRefusal h r (length t) code m) 0) (λ a. meets-raises (eventOf code tick m))
       (λ a. refl)
 
-  carried-raises : (e : Raised) → Raises r (carried e h r t)
-  unfolding carried
+  carried-raises : (e : Raised) → Raises r (carriedOver e h r t)
+  unfolding carriedOver
   carried-raises e =
       pick-is (Raises r) (eqb (e .code) 0) (λ a. refl) (λ a. meets-raises (eventOf (e .code) (e .tick) (e .message)))
 

@@ -16,13 +16,13 @@ use Rattle.common.proofs.Lists.{reads, reads-slice, reads-all}
 use Rattle.common.proofs.Numbers.{number-back, bytes-back}
 use Rattle.recorder.specs.declared.Device.{Device}
 use Rattle.records.proofs.RoundTrip.{reads-bytes}
-use Rattle.kept.specs.State.{sendAt, numbers, words, stateBytes, word, deviceIn, isState}
+use Rattle.kept.specs.State.{sendAt, stateNumbers, wordBytes, stateBytes, word, deviceIn, isState}
 
 -- ---- from a device to its bytes and back
 
 -- a number that was written is read: number k stands at 4 * k
 pub word-words : (ns r : List ℕ) (k : ℕ) → k < length ns → getD ns k 0 < 4294967296
-    → word (words ns ++ r) (4 * k) ≡ getD ns k 0
+    → word (wordBytes ns ++ r) (4 * k) ≡ getD ns k 0
 unfolding word
 word-words [] r k h b = absurd (not-suc-le-zero h)
 word-words (n ∷ ns) r zero h b = number-back 4 n b
@@ -36,7 +36,8 @@ held-back true = refl
 held-back false = refl
 
 -- a device of 32-bit numbers, whose register has eight data bytes, comes back
-pub device-back : (d : Device) → ((k : ℕ) → getD (numbers d) k 0 < 4294967296) → length (d .send .message .bytes) ≡ 8
+pub device-back : (d : Device) → ((k : ℕ) → getD (stateNumbers d) k 0 < 4294967296)
+    → length (d .send .message .bytes) ≡ 8
     → deviceIn (stateBytes d) ≡ d
 unfolding deviceIn stateBytes
 device-back d fits long = λ i. record {
@@ -63,8 +64,9 @@ device-back d fits long = λ i. record {
   };
 }
   where
-    w : (k : ℕ) → k < 20 → word (words (numbers d) ++ d .send .message .bytes) (4 * k) ≡ getD (numbers d) k 0
-    w k h = word-words (numbers d) (d .send .message .bytes) k h (fits k)
+    w : (k : ℕ) → k < 20 → word (wordBytes (stateNumbers d) ++ d .send .message .bytes) (4 * k)
+        ≡ getD (stateNumbers d) k 0
+    w k h = word-words (stateNumbers d) (d .send .message .bytes) k h (fits k)
 
 -- ---- from bytes to their device and back
 
@@ -75,7 +77,7 @@ wordsFrom b k (suc n) = word b (4 * k) ∷ wordsFrom b (suc k) n
 
 -- their bytes are those that they were read from
 words-reads : (b : List ℕ) (k n : ℕ) → Bytes b → 4 * k + 4 * n ≤ length b
-    → words (wordsFrom b k n) ≡ reads b (4 * k) (4 * n)
+    → wordBytes (wordsFrom b k n) ≡ reads b (4 * k) (4 * n)
 unfolding word
 words-reads b k zero g h = refl
 words-reads b k (suc n) g h =

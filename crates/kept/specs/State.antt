@@ -43,21 +43,21 @@ abbrev pub sendAt : ℕ
 sendAt = 44
 
 -- numbers one behind the other, each as four bytes, lowest first
-abbrev pub words : List ℕ → List ℕ
-words [] = []
-words (n ∷ ns) = bytesOf 4 n ++ words ns
+abbrev pub wordBytes : List ℕ → List ℕ
+wordBytes [] = []
+wordBytes (n ∷ ns) = bytesOf 4 n ++ wordBytes ns
 
 -- the register's bytes: its numbers, then the message's eight data bytes
 abbrev pub registerBytes : Bool → Message → List ℕ
-registerBytes held m = words (registerNumbers held m) ++ m .bytes
+registerBytes held m = wordBytes (registerNumbers held m) ++ m .bytes
 
 -- all twenty numbers
-abbrev pub numbers : Device → List ℕ
-numbers d = sharedNumbers (d .shared) ++ receiveNumbers (d .receive) ++ sendNumbers (d .send)
+abbrev pub stateNumbers : Device → List ℕ
+stateNumbers d = sharedNumbers (d .shared) ++ receiveNumbers (d .receive) ++ sendNumbers (d .send)
 
 -- a device's 88 bytes: its numbers, then the register's eight data bytes
 unfoldable pub stateBytes : Device → List ℕ
-stateBytes d = words (numbers d) ++ d .send .message .bytes
+stateBytes d = wordBytes (stateNumbers d) ++ d .send .message .bytes
 
 -- ---- the device that bytes stand for
 

@@ -12,7 +12,7 @@ ghost use mathlib.Core.List.{_++_};
 ghost use Prim.Native.Nat.{_+_, _≤_};
 ghost use lib.ListN.{length};
 ghost use lib.Seq.{sets, slice};
-ghost use Rattle.kept.specs.State.{sharedNumbers, receiveNumbers, sendNumbers, registerBytes, words};
+ghost use Rattle.kept.specs.State.{sharedNumbers, receiveNumbers, sendNumbers, registerBytes, wordBytes};
 ghost use Rattle.kept.specs.State.{sharedIn, receiveIn, registerIn, sendIn};
 
 pub fn shared_in(s: &[u8], at: usize) -> Shared
@@ -99,7 +99,7 @@ pub fn send_in(s: &[u8], at: usize) -> Send
 
 pub fn write_shared(s: &mut [u8], at: usize, h: Shared)
     requires { ⌜ at + 12 ≤ length (now s) ⌝ }
-    ensures { λ _. ⌜ now (s .exit) ≡ sets (now (s .entry)) at (words (sharedNumbers h)) ⌝ }
+    ensures { λ _. ⌜ now (s .exit) ≡ sets (now (s .entry)) at (wordBytes (sharedNumbers h)) ⌝ }
 {
     words::write_two(s, at, h.mode, h.format);
     words::write_word(s, at + 8, h.align);
@@ -107,7 +107,7 @@ pub fn write_shared(s: &mut [u8], at: usize, h: Shared)
 
 pub fn write_receive(s: &mut [u8], at: usize, r: Receive)
     requires { ⌜ at + 32 ≤ length (now s) ⌝ }
-    ensures { λ _. ⌜ now (s .exit) ≡ sets (now (s .entry)) at (words (receiveNumbers r)) ⌝ }
+    ensures { λ _. ⌜ now (s .exit) ≡ sets (now (s .entry)) at (wordBytes (receiveNumbers r)) ⌝ }
 {
     let filter = r.filter;
     let ring = r.ring;
@@ -129,7 +129,7 @@ pub fn write_register(s: &mut [u8], at: usize, held: bool, m: Message)
 
 pub fn write_send(s: &mut [u8], at: usize, x: Send)
     requires { ⌜ at + 44 ≤ length (now s) ⌝ }
-    ensures { λ _. ⌜ (now (s .exit) ≡ sets (now (s .entry)) at (words (sendNumbers x) ++ x .message .bytes))
+    ensures { λ _. ⌜ (now (s .exit) ≡ sets (now (s .entry)) at (wordBytes (sendNumbers x) ++ x .message .bytes))
         × (length (x .message .bytes) ≡ 8) ⌝ }
 {
     let ring = x.ring;

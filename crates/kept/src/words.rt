@@ -5,7 +5,7 @@ ghost use Prim.Native.Nat.{_+_, _≤_};
 ghost use lib.ListN.{length};
 ghost use lib.Seq.{sets};
 ghost use Rattle.common.specs.Numbers.{bytesOf};
-ghost use Rattle.kept.specs.State.{words, word};
+ghost use Rattle.kept.specs.State.{wordBytes, word};
 
 // The number from `at` on.
 pub fn word(s: &[u8], at: usize) -> u32
@@ -32,7 +32,7 @@ pub fn write_word(s: &mut [u8], at: usize, n: u32)
 // Writes two numbers.
 pub fn write_two(s: &mut [u8], at: usize, a: u32, b: u32)
     requires { ⌜ at + 8 ≤ length (now s) ⌝ }
-    ensures { λ _. ⌜ now (s .exit) ≡ sets (now (s .entry)) at (words (a ∷ b ∷ [])) ⌝ }
+    ensures { λ _. ⌜ now (s .exit) ≡ sets (now (s .entry)) at (wordBytes (a ∷ b ∷ [])) ⌝ }
 {
     write_word(s, at, a);
     write_word(s, at + 4, b);
@@ -41,7 +41,7 @@ pub fn write_two(s: &mut [u8], at: usize, a: u32, b: u32)
 // Writes four numbers.
 pub fn write_four(s: &mut [u8], at: usize, a: u32, b: u32, c: u32, d: u32)
     requires { ⌜ at + 16 ≤ length (now s) ⌝ }
-    ensures { λ _. ⌜ now (s .exit) ≡ sets (now (s .entry)) at (words (a ∷ b ∷ c ∷ d ∷ [])) ⌝ }
+    ensures { λ _. ⌜ now (s .exit) ≡ sets (now (s .entry)) at (wordBytes (a ∷ b ∷ c ∷ d ∷ [])) ⌝ }
 {
     write_two(s, at, a, b);
     write_two(s, at + 8, c, d);

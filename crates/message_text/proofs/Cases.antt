@@ -11,7 +11,7 @@ use Rattle.common.proofs.Choices.{pick-is}
 use Rattle.ids.specs.Ids.{rawOf, isBad}
 use Rattle.ids.specs.Frames.{carried}
 use Rattle.message_text.specs.Numbers.{numbers, beforeEnd, usedOf}
-use Rattle.message_text.specs.Reading.{headerOf, allBytes, dataOf, refused, judgedData, judged, readMessage}
+use Rattle.message_text.specs.Reading.{parsedHeader, allBytes, dataOf, refused, judgedData, judged, readMessage}
 use Rattle.message_text.specs.declared.Said.{Said}
 use Rattle.message_text.specs.declared.Answer.the-variants.{Taken}
 
@@ -24,13 +24,17 @@ pub record TakenFacts (align format n : ℕ) (values : List ℕ) : Type 0 where
   pub good : isBad (rawOf align format (getD values 0 0)) ≡ false
   pub rtr : getD values 1 0 ≤ 1
   pub dlc : getD values 2 0 ≤ 15
-  pub enough : 3 + carried (headerOf align format values) ≤ n
+  pub enough : 3 + carried (parsedHeader align format values) ≤ n
   pub bytes : allBytes (drop 3 values) ≡ true
 
 -- the message that they make
 abbrev pub takenOf : ℕ → ℕ → List ℕ → ℕ → Said
 takenOf align format values used =
-    record { answer = Taken (headerOf align format values) used; bytes = dataOf (headerOf align format values) values }
+    record {
+      answer = Taken (parsedHeader align format values) used;
+      bytes = dataOf
+          (parsedHeader align format values) values;
+    }
 
 -- what holds of each refusal and of a message holds of what numbers say
 pub judged-is : (P : Said → Type 0) (align format n : ℕ) (values : List ℕ) (used : ℕ)
@@ -38,7 +42,7 @@ pub judged-is : (P : Said → Type 0) (align format n : ℕ) (values : List ℕ)
     → (TakenFacts align format n values → P (takenOf align format values used)) → P (judged align format n values used)
 unfolding judged judgedData
 judged-is P align format n values used r t =
-    let h = headerOf align format values in
+    let h = parsedHeader align format values in
     pick-is P (ltb n 3) (λ e. r 7 refl)
     (λ e. pick-is P (isBad (rawOf align format (getD values 0 0))) (λ e. r 8 refl)
     (λ good. pick-is P (ltb 1 (getD values 1 0)) (λ e. r 9 refl)

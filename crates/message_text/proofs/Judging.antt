@@ -14,7 +14,7 @@ use Rattle.ids.specs.declared.Header.{Header}
 use Rattle.ids.proofs.Frames.{carried-le}
 use Rattle.digits.specs.Reading.{capped}
 use Rattle.digits.proofs.Capped.{ltb-capped}
-use Rattle.message_text.specs.Reading.{headerOf, allBytes, judgedData, judged, readMessage}
+use Rattle.message_text.specs.Reading.{parsedHeader, allBytes, judgedData, judged, readMessage}
 use Rattle.message_text.specs.Numbers.{numbers, beforeEnd, usedOf}
 use Rattle.message_text.specs.Scan.{keptFrom, keptOf}
 use Rattle.message_text.specs.declared.Kept.{Kept}
@@ -63,7 +63,13 @@ module _ (a b c : ℕ) (values : List ℕ) (used : ℕ) where
   unfolding judged
   same-judged align format =
       let n = length (a ∷ b ∷ c ∷ values) in
-      rw (below-min 3 n (omega arith), raw-capped align format a, ltb-capped 1 b (omega arith), ltb-capped 15 c (omega arith))
+      rw (
+        below-min 3 n (omega arith),
+        raw-capped align format a,
+        ltb-capped 1 b (omega arith),
+        ltb-capped 15 c
+            (omega arith),
+      )
       (pick-same (ltb n 3) (λ e. refl)
       (λ e. pick-same (isBad (rawOf align format a)) (λ e. refl)
       (λ e. pick-same (ltb 1 b) (λ e. refl)
@@ -71,7 +77,7 @@ module _ (a b c : ℕ) (values : List ℕ) (used : ℕ) where
       (λ q.
       let r : capped b ≡ b = omega (arith, ltb-false 1 b p) in
       let d : capped c ≡ c = omega (arith, ltb-false 15 c q) in
-      rw (r, d) (same-data (headerOf align format (a ∷ b ∷ c ∷ values)) (capped a) b c))))))
+      rw (r, d) (same-data (parsedHeader align format (a ∷ b ∷ c ∷ values)) (capped a) b c))))))
 
 -- the numbers kept say what all the numbers say
 kept-judged : (align format : ℕ) (values : List ℕ) (used : ℕ)

@@ -10,7 +10,7 @@ use Rattle.common.specs.Choice.{pick}
 use Rattle.common.proofs.Bools.{apart}
 use Rattle.message_text.specs.Numbers.{Place, between, ended, after, isEnd, isDigit}
 use Rattle.message_text.specs.Numbers.{numbersFrom, numbers, beforeEnd, endRun, usedOf}
-use Rattle.message_text.specs.Reading.{readMessage, refused, numberOf, usedBy}
+use Rattle.message_text.specs.Reading.{readMessage, refused, parsedNumber, usedBy}
 use Rattle.common.proofs.Choices.{by-test, pick-is, pick-same}
 use Rattle.message_text.proofs.Cases.{isRefusal, judged-is}
 
@@ -123,9 +123,9 @@ used-some align format text has = (
 
 -- and 6 is not its number
 pub six-none : (align format : ℕ) (text : List ℕ) → beforeEnd text < length text
-    → numberOf (readMessage align format text .answer) ≡ 6 → ⊥
+    → parsedNumber (readMessage align format text .answer) ≡ 6 → ⊥
 unfolding readMessage
 six-none align format text has =
     rw (lt-ltb (beforeEnd text) (length text) has)
-    (judged-is (λ s. numberOf (s .answer) ≡ 6 → ⊥) align format (length (numbers text)) (numbers text) (usedOf text)
+    (judged-is (λ s. parsedNumber (s .answer) ≡ 6 → ⊥) align format (length (numbers text)) (numbers text) (usedOf text)
     (λ number l e. apart (sym l ∙ ap isRefusal e)) (λ t e. omega arith))

@@ -15,7 +15,7 @@ use Rattle.ids.specs.declared.Header.{Header}
 use Rattle.ids.proofs.Frames.{carried-le}
 use Rattle.records.specs.Messages.{goodMessage}
 use Rattle.message_text.specs.Numbers.{numbers}
-use Rattle.message_text.specs.Reading.{headerOf, dataOf, readMessage}
+use Rattle.message_text.specs.Reading.{parsedHeader, dataOf, readMessage}
 use Rattle.message_text.specs.declared.Answer.{Answer}
 use Rattle.message_text.specs.declared.Answer.the-variants.{Taken, Refused}
 use Rattle.message_text.proofs.Ids.{raw-good}
@@ -29,7 +29,7 @@ Fit (Refused number used) b = b ≡ replicate 8 0
 
 module _ (align format : ℕ) (values : List ℕ) (t : TakenFacts align format (length values) values) where
   abbrev h : Header
-  h = headerOf align format values
+  h = parsedHeader align format values
 
   header-good : headerRefusal h ≡ 0
   unfolding headerRefusal

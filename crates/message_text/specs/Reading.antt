@@ -14,8 +14,8 @@ use Rattle.message_text.specs.declared.Answer.{Answer}
 use Rattle.message_text.specs.declared.Answer.the-variants.{Taken, Refused}
 
 -- the fields id, rtr, dlc of a text's numbers: the identifier is aligned, the format is the channel's default
-abbrev pub headerOf : ℕ → ℕ → List ℕ → Header
-headerOf align format values = record {
+abbrev pub parsedHeader : ℕ → ℕ → List ℕ → Header
+parsedHeader align format values = record {
   id = idNumber (rawOf align format (getD values 0 0));
   format = format;
   rtr = getD values 1 0;
@@ -50,7 +50,7 @@ judged align format n values used =
     (pick (isBad (rawOf align format (getD values 0 0))) (refused 8 used)
     (pick (ltb 1 (getD values 1 0)) (refused 9 used)
     (pick (ltb 15 (getD values 2 0)) (refused 10 used)
-    (judgedData (headerOf align format values) n values used))))
+    (judgedData (parsedHeader align format values) n values used))))
 
 -- what a text says: 6 where it has no end, with 0 bytes used; else what its numbers say
 unfoldable pub readMessage : ℕ → ℕ → List ℕ → Said
@@ -60,9 +60,9 @@ readMessage align format text =
     (refused 6 0)
 
 -- the paper's number of an answer: 0 for a message
-abbrev pub numberOf : Answer → ℕ
-numberOf (Taken h used) = 0
-numberOf (Refused number used) = number
+abbrev pub parsedNumber : Answer → ℕ
+parsedNumber (Taken h used) = 0
+parsedNumber (Refused number used) = number
 
 -- the bytes used, of either answer
 abbrev pub usedBy : Answer → ℕ

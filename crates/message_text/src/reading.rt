@@ -12,7 +12,7 @@ ghost use Prim.Native.Nat.{_+_, _-_, _≤_};
 ghost use lib.ListN.{drop, take, replicate};
 ghost use Rattle.ids.specs.Ids.{rawOf};
 ghost use Rattle.message_text.specs.Reading.{allBytes, refused, judgedData, judged};
-ghost use Rattle.message_text.specs.Reading.{readMessage, numberOf, usedBy};
+ghost use Rattle.message_text.specs.Reading.{readMessage, parsedNumber, usedBy};
 
 // The raw identifier of an aligned one of any size.
 fn raw_of(align: u32, format: u32, v: u64) -> Id
@@ -131,7 +131,7 @@ pub fn read_message(align: u32, format: u32, text: &[u8]) -> Said
 
 // The paper's number of an answer.
 pub fn number_of(a: Answer) -> u32
-    ensures { λ r. ⌜ r ≡ numberOf a ⌝ }
+    ensures { λ r. ⌜ r ≡ parsedNumber a ⌝ }
 {
     let Answer::Refused(number, _used) = a else {
         return 0;

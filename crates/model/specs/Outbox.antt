@@ -11,7 +11,7 @@ use Rattle.records.specs.Messages.{messageSize, messageBytes}
 use Rattle.records.specs.Raised.{eventOf}
 use Rattle.records.specs.declared.Message.{Message}
 use Rattle.records.specs.declared.Event.{Event}
-use Rattle.message_text.specs.Reading.{readMessage, numberOf, usedBy}
+use Rattle.message_text.specs.Reading.{readMessage, parsedNumber, usedBy}
 use Rattle.message_text.specs.declared.Said.{Said as TextSaid}
 use Rattle.message_text.specs.declared.Answer.{Answer}
 use Rattle.message_text.specs.declared.Answer.the-variants.{Taken, Refused}
@@ -66,7 +66,7 @@ put a m o =
 
 -- what a text says: its number, and the bytes used, refused or not
 abbrev pub textSays : Answer → Said
-textSays a = record { number = numberOf a; value = usedBy a; bytes = []; line = [] }
+textSays a = record { number = parsedNumber a; value = usedBy a; bytes = []; line = [] }
 
 -- the message that a text says is put in; a refused text is answered
 abbrev pub putText : TextSaid → Outbox → Posted

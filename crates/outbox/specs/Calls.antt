@@ -10,7 +10,7 @@ use Rattle.common.specs.Slots.{store}
 use Rattle.common.specs.Rings.{slotOf, withOneMore}
 use Rattle.records.specs.Messages.{messageSize, messageBytes, messageIn, noMessage}
 use Rattle.records.specs.declared.Message.{Message}
-use Rattle.message_text.specs.Reading.{readMessage, numberOf, usedBy}
+use Rattle.message_text.specs.Reading.{readMessage, parsedNumber, usedBy}
 use Rattle.message_text.specs.declared.Answer.{Answer}
 use Rattle.message_text.specs.declared.Answer.the-variants.{Taken, Refused}
 use Rattle.message_text.specs.declared.Said.{Said}
@@ -94,7 +94,7 @@ saidMessage said = by (said .answer)
 
 -- what a text says in the default format: its number, the bytes used, its message
 abbrev pub readAs : Said → Read
-readAs said = record { number = numberOf (said .answer); used = usedBy (said .answer); message = saidMessage said }
+readAs said = record { number = parsedNumber (said .answer); used = usedBy (said .answer); message = saidMessage said }
 
 abbrev pub reads : Shared → List ℕ → Read
 reads h text = readAs (readMessage (h .align) (formatOf h (h .format)) text)

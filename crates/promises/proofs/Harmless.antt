@@ -44,7 +44,7 @@ use Rattle.common.specs.Refusals.{isRefusal}
 use Rattle.recorder.specs.Receiving.{opened, changed, filterSet, eventMaskSet, raised}
 use Rattle.recorder.specs.Receiving.{recordRead, textRead, lookSaid, through}
 use Rattle.recorder.specs.Receiving as Received
-use Rattle.recorder.specs.Sending.{lifted, carried, carrying, sent, textSent, taken, finished, aborted}
+use Rattle.recorder.specs.Sending.{lifted, carriedOver, carrying, sent, textSent, taken, finished, aborted}
 use Rattle.recorder.specs.Printing.{linePrinted, messageRecordPrinted, eventRecordPrinted, messagePrinted}
 use Rattle.recorder.specs.declared.Device.{Device}
 use Rattle.settings.specs.declared.Shared.{Shared}
@@ -275,7 +275,7 @@ module _ (d : Device) (l : Lent) where
       (λ e. refl))
 
   take-fine : (tick : ℕ) → H (listedSend (take tick)) d l (taken tick d l)
-  unfolding taken Wire.taken carried
+  unfolding taken Wire.taken carriedOver
   take-fine tick =
       let ns : List ℕ = 2 ∷ 5 ∷ 4 ∷ 14 ∷ 0 ∷ [] in
       both (H ns d l) (usable (d .receive) (l .queue)) _ _
@@ -285,7 +285,7 @@ module _ (d : Device) (l : Lent) where
       (refused-bytes ns d l 2 messageSize refl)
 
   done-fine : (tick : ℕ) → H (listedSend (done tick)) d l (finished tick d l)
-  unfolding finished Wire.finished doneRefusal carried
+  unfolding finished Wire.finished doneRefusal carriedOver
   done-fine tick =
       let ns : List ℕ = 2 ∷ 4 ∷ 0 ∷ [] in
       let listed : Other ns (doneRefusal (d .shared) (d .send)) =
@@ -297,7 +297,7 @@ module _ (d : Device) (l : Lent) where
       (refused ns d l 2 refl)
 
   abort-fine : (tick : ℕ) → H (listedSend (abort tick)) d l (aborted tick d l)
-  unfolding aborted Wire.aborted abortRefusal carried
+  unfolding aborted Wire.aborted abortRefusal carriedOver
   abort-fine tick =
       let ns : List ℕ = 2 ∷ 0 ∷ [] in
       let listed : Other ns (abortRefusal (d .shared) (d .send)) =

@@ -31,7 +31,7 @@ use Rattle.channels.specs.declared.Send.{Send}
 use Rattle.recorder.specs.State.{withSend}
 use Rattle.recorder.specs.Outcomes.{Lent, lends, ends}
 use Rattle.recorder.specs.Outcomes as Ended
-use Rattle.recorder.specs.Sending.{lifted, carried, carrying, sent, textSent, taken, finished, aborted}
+use Rattle.recorder.specs.Sending.{lifted, carriedOver, carrying, sent, textSent, taken, finished, aborted}
 use Rattle.recorder.specs.declared.Device.{Device}
 use Rattle.recorder.proofs.SendWays.{carries-as}
 use Rattle.model.specs.Said.{says, saysZeros, counts, hands}
@@ -218,7 +218,7 @@ module _ (d : Device) (q t out : List ℕ) (i : ℕ) (b : Inbox) (o : Outbox) (h
 
   -- a take
   take-is : (tick : ℕ) → Word tick → Doing (take tick)
-  unfolding outcome taken carried step posts
+  unfolding outcome taken carriedOver step posts
   take-is tick ty = rw both (by (o .register) (h .outbox .register))
     where
       Result : Posted → Type 0
@@ -241,7 +241,7 @@ module _ (d : Device) (q t out : List ℕ) (i : ℕ) (b : Inbox) (o : Outbox) (h
 
   -- a done
   done-is : (tick : ℕ) → Word tick → Doing (done tick)
-  unfolding outcome finished carried step posts
+  unfolding outcome finished carriedOver step posts
   done-is tick ty = rw both (by (o .register) (h .outbox .register))
     where
       empty : Sends (afterDone (d .send)) t (holding o (o .buffer) none (o .sent) (o .gone))
@@ -269,7 +269,7 @@ module _ (d : Device) (q t out : List ℕ) (i : ℕ) (b : Inbox) (o : Outbox) (h
 
   -- an abort
   abort-is : (tick : ℕ) → Word tick → Doing (abort tick)
-  unfolding outcome aborted carried step posts
+  unfolding outcome aborted carriedOver step posts
   abort-is tick ty =
       rw both
       (agrees-as

@@ -21,15 +21,15 @@ use Rattle.outbox.specs.declared.Taken.{Taken as TakenOut}
 use Rattle.outbox.specs.declared.Emptied.{Emptied}
 use Rattle.recorder.specs.State.{withReceive, withSend}
 use Rattle.recorder.specs.Outcomes.{Lent, Outcome, noted, answers, takes, QueueMet, SendMet, TakeMet}
-use Rattle.recorder.specs.Sending.{lifted, carried, carriedPast, EmptiedMet, carrying}
+use Rattle.recorder.specs.Sending.{lifted, carriedOver, carriedPast, EmptiedMet, carrying}
 use Rattle.recorder.specs.declared.Device.{Device}
 use Rattle.recorder.specs.declared.Answer.{Answer}
 use Rattle.recorder.proofs.Ready.{other-code}
 
--- an event of another code than 1 is carried past the filter
+-- an event of another code than 1 is carriedOver past the filter
 module _ (e : Raised) (r : Receive) (q : List ℕ) where
-  pub carried-past : (h : Shared) → (e .code ≡ 1 → ⊥) → carried e h r q ≡ carriedPast e r q
-  unfolding carried carriedPast
+  pub carried-past : (h : Shared) → (e .code ≡ 1 → ⊥) → carriedOver e h r q ≡ carriedPast e r q
+  unfolding carriedOver carriedPast
   carried-past h other =
       ap (pick (eqb (e .code) 0) (raises 0 r q))
       (no-filter h r (eventOf (e .code) (e .tick) (e .message)) q (other-code (e .code) (e .tick) (e .message) other))
@@ -49,7 +49,7 @@ module _ (o : Outbox.Outcome) (d : Device) (l : Lent) (w : Outcome) (ok : Bool) 
   lifted-met s t m e a = rw z (record { answer = a ∙ rw (e, m .answer); send-bytes = m .table })
 
   module _ (other : o .raised .code ≡ 1 → ⊥) where
-    past : carriedPast (o .raised) (d .receive) (l .queue) ≡ carried (o .raised) (d .shared) (d .receive) (l .queue)
+    past : carriedPast (o .raised) (d .receive) (l .queue) ≡ carriedOver (o .raised) (d .shared) (d .receive) (l .queue)
     past = sym (carried-past (o .raised) (d .receive) (l .queue) (d .shared) other)
 
     pub emptied-met : (s : Emptied) → s ≡ Outbox.emptiedOf o → {r : Answer} {q : List ℕ}
@@ -69,6 +69,6 @@ pub carries-as : (test : Bool) (code tick : ℕ) (m : Message) → eqb code 0 �
     → (n v : ℕ) (b : List ℕ) (s : Send) (t : List ℕ) (d : Device) (l : Lent)
     → let o : Outbox.Outcome = Outbox.ends n v b s t (Outbox.raisedIf test code tick m) in
     carrying o d l ≡ pick test (noted (eventOf code tick m) (lifted o d l)) (lifted o d l)
-unfolding carried noted
+unfolding carriedOver noted
 carries-as true code tick m z n v b s t d l = rw z
 carries-as false code tick m z n v b s t d l = refl

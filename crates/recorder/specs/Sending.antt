@@ -25,8 +25,8 @@ abbrev pub lifted : Outbox.Outcome → Device → Lent → Outcome
 lifted o d l = ends (o .number) (o .value) (o .bytes) (withSend d (o .send)) (withTable l (o .table))
 
 -- the event that a call on the send channel raises meets filter, mask and queue; code 0 is none
-unfoldable pub carried : Raised → Shared → Receive → List ℕ → Raising
-carried e s r q =
+unfoldable pub carriedOver : Raised → Shared → Receive → List ℕ → Raising
+carriedOver e s r q =
     pick (eqb (e .code) 0) (raises 0 r q) (meets s r (eventOf (e .code) (e .tick) (e .message)) q)
 
 -- the same past the filter, which only code 1 meets
@@ -42,7 +42,7 @@ pub record EmptiedMet (d : Device) (o : Emptied) (g : Raising) (r : Answer) (que
 -- the same with the event carried to the queue: number, value and bytes stay
 abbrev pub carrying : Outbox.Outcome → Device → Lent → Outcome
 carrying o d l =
-    let r : Raising = carried (o .raised) (d .shared) (d .receive) (l .queue) in
+    let r : Raising = carriedOver (o .raised) (d .shared) (d .receive) (l .queue) in
     ends (o .number) (o .value) (o .bytes) (withReceive (withSend d (o .send)) (r .receive))
     (withQueue (withTable l (o .table)) (r .table))
 

@@ -1,6 +1,6 @@
 use Rattle.kept.proofs.Laws.{both-written}
 use mathlib.Core.List.{[], _∷_}
-use Rattle.kept.specs.State.{words}
+use Rattle.kept.specs.State.{wordBytes}
 use denote.Ref.{now}
 use borrow.Author.Needs.{needs}
 use Rattle.kept.proofs.parts.write_receive.Statement.{statement}
@@ -11,8 +11,8 @@ returns c =
     let a = c .before .before .before .before .before .before .before .before .before .before .before .args in
     let r = a .r in
     let first = c .before .before .before .before .before .before .write-four in
-    both-written (now (a .s)) (words (r .filter .active ∷ r .filter .code ∷ r .filter .mask ∷ r .events ∷ []))
-    (words (r .ring .capacity ∷ r .ring .first ∷ r .ring .count ∷ r .pending ∷ [])) (a .at) (first .ensures)
+    both-written (now (a .s)) (wordBytes (r .filter .active ∷ r .filter .code ∷ r .filter .mask ∷ r .events ∷ []))
+    (wordBytes (r .ring .capacity ∷ r .ring .first ∷ r .ring .count ∷ r .pending ∷ [])) (a .at) (first .ensures)
     (c .before .before .write-four2 .ensures)
 
 pub write-receive-spec : {M : Type 1} → statement M

@@ -1,6 +1,6 @@
 use Rattle.kept.proofs.Laws.{both-written}
 use mathlib.Core.List.{[], _∷_}
-use Rattle.kept.specs.State.{words, registerBytes}
+use Rattle.kept.specs.State.{wordBytes, registerBytes}
 use denote.Ref.{now}
 use borrow.Author.Needs.{needs}
 use Rattle.kept.proofs.parts.write_send.Statement.{statement}
@@ -12,7 +12,7 @@ returns c =
     let x = a .x in
     let first = c .before .before .before .before .before .before .write-four in
     let register = c .before .before .write-register .ensures in (
-      both-written (now (a .s)) (words (x .tx ∷ x .ring .capacity ∷ x .ring .first ∷ x .ring .count ∷ []))
+      both-written (now (a .s)) (wordBytes (x .tx ∷ x .ring .capacity ∷ x .ring .first ∷ x .ring .count ∷ []))
           (registerBytes (x .held) (x .message)) (a .at) (first .ensures) (register .0),
       register .1,
     )

@@ -1,7 +1,7 @@
 use Rattle.kept.proofs.Laws.{both-written}
 use mathlib.Core.List.{[], _∷_}
 use Rattle.common.specs.Numbers.{bytesOf}
-use Rattle.kept.specs.State.{words}
+use Rattle.kept.specs.State.{wordBytes}
 use denote.Ref.{now}
 use borrow.Author.Needs.{needs}
 use Rattle.kept.proofs.parts.write_shared.Statement.{statement}
@@ -12,7 +12,7 @@ returns c =
     let a = c .before .before .before .before .before .before .before .before .before .args in
     let h = a .h in
     let first = c .before .before .before .before .before .before .write-two in
-    both-written (now (a .s)) (words (h .mode ∷ h .format ∷ [])) (bytesOf 4 (h .align)) (a .at) (first .ensures)
+    both-written (now (a .s)) (wordBytes (h .mode ∷ h .format ∷ [])) (bytesOf 4 (h .align)) (a .at) (first .ensures)
     (c .before .before .write-word .ensures)
 
 pub write-shared-spec : {M : Type 1} → statement M

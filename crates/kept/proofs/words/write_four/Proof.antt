@@ -1,6 +1,6 @@
 use Rattle.kept.proofs.Laws.{both-written}
 use mathlib.Core.List.{[], _∷_}
-use Rattle.kept.specs.State.{words}
+use Rattle.kept.specs.State.{wordBytes}
 use denote.Ref.{now}
 use borrow.Author.Needs.{needs}
 use Rattle.kept.proofs.words.write_four.Statement.{statement}
@@ -10,7 +10,7 @@ returns : tie.Need-returns
 returns c =
     let a = c .before .before .before .before .before .before .before .before .before .args in
     let first = c .before .before .before .before .before .before .write-two in
-    both-written (now (a .s)) (words (a .a ∷ a .b ∷ [])) (words (a .c ∷ a .d ∷ [])) (a .at) (first .ensures)
+    both-written (now (a .s)) (wordBytes (a .a ∷ a .b ∷ [])) (wordBytes (a .c ∷ a .d ∷ [])) (a .at) (first .ensures)
     (c .before .before .write-two2 .ensures)
 
 pub write-four-spec : {M : Type 1} → statement M
