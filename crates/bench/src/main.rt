@@ -4,6 +4,7 @@ mod page;
 mod sending;
 
 use recorder::Answer;
+use records::messages::MESSAGE;
 use sending::Step;
 ghost use Prim.Native.Nat.{_≤_, _<_};
 
@@ -22,7 +23,7 @@ fn used_of(used: usize, length: usize) -> usize
 
 // Sends the texts one behind the other: what follows the bytes used is handed on as a part.
 fn run(mut step: Step, texts: &[u8]) {
-    let mut send = [0u8; 16];
+    let mut send = [0u8; MESSAGE];
     let mut lines = io::buffer();
     let mut rest = &texts[0..];
     let mut at: usize = 0;

@@ -3,6 +3,8 @@ use recorder::Answer;
 use recorder::Device;
 use recorder::Taken;
 use recorder::register;
+use records::events::EVENT;
+use records::messages::MESSAGE;
 use settings::Settings;
 use show::Line;
 
@@ -31,7 +33,7 @@ fn settings() -> Settings {
 
 // Opens a device; no byte of the tables is written, so that others are lent to the calls.
 pub fn open() -> Answer {
-    recorder::opening::open(settings(), &[0u8; 32], &[0u8; 16])
+    recorder::opening::open(settings(), &[0u8; EVENT], &[0u8; MESSAGE])
 }
 
 fn step_of(line: Line, used: usize, d: Device) -> Step {
@@ -61,7 +63,7 @@ fn finish(taken: Taken, used: usize) -> Step {
     if taken.number != 0 {
         return refused(taken.number, used, taken.device);
     }
-    let finished = register::done(taken.device, 0, &mut [0u8; 32]);
+    let finished = register::done(taken.device, 0, &mut [0u8; EVENT]);
     let b = taken.bytes;
     step_of(show::record_line(b), used, finished.device)
 }
@@ -71,7 +73,7 @@ fn take(sent: Answer, send: &[u8]) -> Step {
     if sent.number != 0 {
         return refused(sent.number, sent.value, sent.device);
     }
-    let taken = register::take(sent.device, 0, send, &mut [0u8; 32]);
+    let taken = register::take(sent.device, 0, send, &mut [0u8; EVENT]);
     finish(taken, sent.value)
 }
 

@@ -217,7 +217,7 @@ board-larger f g s t l m xs le same ty e k =
 
 -- ---- the look
 
--- THEOREM. Beside 0 what sv_look shows are the 32 bytes at its offset in the event table
+-- THEOREM. Beside 0 what sv_look shows are the slot's bytes at its offset in the event table
 pub look-shows : (p : ℕ) (s : List ℕ) (l : Lent)
     → let o : Outcome = called (onReceive (look p)) s l in
     o .number ≡ 0 → o .bytes ≡ take eventSize (drop (lookedAt (deviceIn s .receive) (l .queue) p) (l .queue))

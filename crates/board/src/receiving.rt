@@ -1,5 +1,6 @@
 // Raising, reading and looking.
 use common::rings;
+use records::events::EVENT;
 ghost use mathlib.Core.Path.{_≡_};
 ghost use mathlib.Core.List.{[]};
 ghost use Rattle.inbox.specs.Calls.{lookedAt};
@@ -39,9 +40,9 @@ pub extern "C" fn sv_raise(
     kept::handing::leave_counted(state, number, next.ring.count, next.pending)
 }
 
-// Reads the oldest event as its 32 bytes.
+// Reads the oldest event as its bytes.
 #[no_mangle]
-pub extern "C" fn sv_read_record(state: &mut [u8], queue: &[u8], out: &mut [u8; 32]) -> u32
+pub extern "C" fn sv_read_record(state: &mut [u8], queue: &[u8], out: &mut [u8; EVENT]) -> u32
     ensures { λ n.
         let o : Outcome = called (onReceive readRecord) (now (state .entry)) (lends (now (queue .entry)) [] []) in
         ⌜ CalledWith o (now (state .entry)) (now (out .entry)) (o .bytes) n (now (state .exit))

@@ -1,18 +1,19 @@
 // The transmit register: take, done and abort.
+use records::messages::MESSAGE;
 ghost use mathlib.Core.List.{[]};
 ghost use Rattle.recorder.specs.Outcomes.{Outcome, lends};
 ghost use Rattle.model.specs.Outbox.{take, done, abort};
 ghost use Rattle.model.specs.Box.{onSend};
 ghost use Rattle.board.specs.Board.{called, Called, CalledWith};
 
-// Moves the oldest message to the register and hands its 16 bytes back.
+// Moves the oldest message to the register and hands its bytes back.
 #[no_mangle]
 pub extern "C" fn sv_take(
     state: &mut [u8],
     tick: u32,
     send: &[u8],
     queue: &mut [u8],
-    out: &mut [u8; 16],
+    out: &mut [u8; MESSAGE],
 ) -> u32
     ensures { λ n.
         let o : Outcome = called (onSend (take tick)) (now (state .entry))

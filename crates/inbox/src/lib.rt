@@ -6,11 +6,12 @@ pub mod reading;
 mod refusals;
 
 use channels::Receive;
+use records::events::EVENT;
 
-// The answer of read_record: the paper's number, the event's 32 bytes, and the channel after the call.
+// The answer of read_record: the paper's number, the event's bytes, and the channel after the call.
 pub struct ReadOut {
     pub number: u32,
-    pub bytes: [u8; 32],
+    pub bytes: [u8; EVENT],
     pub receive: Receive,
 }
 

@@ -6,6 +6,8 @@ use channels::Send;
 use ids::Header;
 use recorder::Device;
 use records::Message;
+use records::events::EVENT;
+use records::messages::MESSAGE;
 ghost use mathlib.Core.Path.{_≡_};
 ghost use mathlib.Core.Bool.{true};
 ghost use lib.ListN.{length};
@@ -98,8 +100,8 @@ pub fn hand_number(place: &mut u32, number: u32, value: u32)
     *place = value;
 }
 
-// The same for an event's 32 bytes.
-pub fn hand_event(place: &mut [u8; 32], number: u32, bytes: [u8; 32])
+// The same for an event's bytes.
+pub fn hand_event(place: &mut [u8; EVENT], number: u32, bytes: [u8; EVENT])
     ensures { λ _. ⌜ now (place .exit) ≡ left number (now (place .entry)) bytes ⌝ }
 {
     if is_refusal(number) {
@@ -108,8 +110,8 @@ pub fn hand_event(place: &mut [u8; 32], number: u32, bytes: [u8; 32])
     *place = bytes;
 }
 
-// The same for a message's 16 bytes.
-pub fn hand_message(place: &mut [u8; 16], number: u32, bytes: [u8; 16])
+// The same for a message's bytes.
+pub fn hand_message(place: &mut [u8; MESSAGE], number: u32, bytes: [u8; MESSAGE])
     ensures { λ _. ⌜ now (place .exit) ≡ left number (now (place .entry)) bytes ⌝ }
 {
     if is_refusal(number) {

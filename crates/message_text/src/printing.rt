@@ -12,7 +12,7 @@ ghost use Rattle.records.specs.Messages.{messageIn};
 ghost use Rattle.message_text.specs.Printing.{messageText, messageLine, messageRefusal, messageRecordRefusal};
 
 // The room that the longest line needs.
-const ROOM: usize = 37;
+pub const ROOM: usize = 37;
 
 fn refuse(number: u32) -> Printed
     ensures { λ r. ⌜ r ≡ notPrinted number ⌝ }

@@ -8,6 +8,7 @@ use crate::refusals;
 use channels::Send;
 use channels::sending;
 use records::Message;
+use records::messages::MESSAGE;
 use settings::Shared;
 ghost use mathlib.Core.Path.{_≡_};
 ghost use mathlib.Core.List.{[]};
@@ -30,7 +31,7 @@ fn not_sent(number: u32, value: usize, s: Send) -> Sent
 fn not_taken(number: u32, s: Send) -> Taken
     ensures { λ r. ⌜ r ≡ takenOf (refused number 0 (replicate messageSize 0) s []) ⌝ }
 {
-    let b = [0u8; 16];
+    let b = [0u8; MESSAGE];
     let none = moves::raised_if(false, 0, 0, records::messages::no_message());
     Taken {
         number: number,

@@ -6,6 +6,7 @@ mod refusals;
 
 use channels::Send;
 use records::Message;
+use records::messages::MESSAGE;
 
 // The event that a call raises, to be carried to a receive channel: its code, or 0 for none, tick and message.
 pub struct Raised {
@@ -21,10 +22,10 @@ pub struct Sent {
     pub send: Send,
 }
 
-// The answer of take: the message's 16 bytes, and the event that the call raises.
+// The answer of take: the message's bytes, and the event that the call raises.
 pub struct Taken {
     pub number: u32,
-    pub bytes: [u8; 16],
+    pub bytes: [u8; MESSAGE],
     pub send: Send,
     pub raised: Raised,
 }

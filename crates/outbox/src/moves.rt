@@ -6,6 +6,7 @@ use channels::sending;
 use common::rings;
 use records::JudgedMessage;
 use records::Message;
+use records::messages::MESSAGE;
 ghost use mathlib.Core.Path.{_≡_};
 ghost use mathlib.Core.Bool.{true};
 ghost use Prim.Native.Nat.{_<_};
@@ -24,11 +25,11 @@ pub fn oldest(s: Send, table: &[u8]) -> JudgedMessage
     records::messages::judge_message(&table[at..at + sending::SLOT])
 }
 
-// A message's 16 bytes, by value.
-pub fn bytes_of(m: Message) -> [u8; 16]
+// A message's bytes, by value.
+pub fn bytes_of(m: Message) -> [u8; MESSAGE]
     ensures { λ b. ⌜ b ≡ messageBytes m ⌝ }
 {
-    let mut b = [0u8; 16];
+    let mut b = [0u8; MESSAGE];
     records::messages::write_message(&mut b, m);
     b
 }

@@ -9,6 +9,8 @@ mod state;
 
 use channels::Receive;
 use channels::Send;
+use records::events::EVENT;
+use records::messages::MESSAGE;
 use settings::Shared;
 
 // The whole state of a device, by value.
@@ -25,17 +27,17 @@ pub struct Answer {
     pub device: Device,
 }
 
-// The answer of a read: the event's 32 bytes.
+// The answer of a read: the event's bytes.
 pub struct Record {
     pub number: u32,
-    pub bytes: [u8; 32],
+    pub bytes: [u8; EVENT],
     pub device: Device,
 }
 
-// The answer of a take: the message's 16 bytes.
+// The answer of a take: the message's bytes.
 pub struct Taken {
     pub number: u32,
-    pub bytes: [u8; 16],
+    pub bytes: [u8; MESSAGE],
     pub device: Device,
 }
 

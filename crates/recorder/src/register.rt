@@ -7,6 +7,7 @@ use crate::state;
 use channels::Receive;
 use outbox::Emptied;
 use outbox::Raised;
+use records::messages::MESSAGE;
 ghost use mathlib.Core.Path.{_≡_};
 ghost use mathlib.Core.Bool.{true};
 ghost use mathlib.Core.List.{[]};
@@ -46,7 +47,7 @@ pub fn take(d: Device, tick: u32, send: &[u8], queue: &mut [u8]) -> Taken
         r (now (queue .exit)) ⌝ }
 {
     if !state::receive_ready(d, queue.len()) {
-        let b = [0u8; 16];
+        let b = [0u8; MESSAGE];
         return Taken {
             number: 2,
             bytes: b,

@@ -3,6 +3,7 @@ use crate::queueing;
 use crate::setting;
 use recorder::Device;
 use recorder::receiving;
+use records::events::EVENT;
 
 // The number of a read into a room.
 fn write_room(said: &[u8], number: u32) {
@@ -18,7 +19,7 @@ fn write_line(number: u32, line: &[u8], length: usize) {
 }
 
 fn read_line(d: Device, queue: &[u8]) {
-    let mut room = [0u8; 80];
+    let mut room = [0u8; event_text::printing::ROOM];
     let good = receiving::read_text(d, queue, &mut room);
     write_line(good.number, &room, good.value);
 }
@@ -33,7 +34,7 @@ fn read_short(d: Device, queue: &[u8]) {
     read_line(refused.device, queue);
 }
 
-fn raise(d: Device, table: [u8; 32]) {
+fn raise(d: Device, table: [u8; EVENT]) {
     let mut queue = table;
     let m = setting::frame(0x112, 1, 0, 0, 0);
     let raised = receiving::raise(d, 1, 12568, m, &mut queue);
@@ -42,7 +43,7 @@ fn raise(d: Device, table: [u8; 32]) {
 
 // One event kept and five lost, so that the event behind them has lost 5.
 pub fn cases() {
-    let mut queue = [0u8; 32];
+    let mut queue = [0u8; EVENT];
     let emptied = queueing::play(b"123456-", false, &mut queue);
     raise(emptied.device, queue);
 }

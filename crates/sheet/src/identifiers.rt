@@ -4,6 +4,7 @@ use digits::Printed;
 use recorder::Through;
 use recorder::printing;
 use recorder::receiving;
+use records::events::EVENT;
 
 // Prints raw identifier 731.
 fn print(align: u32, out: &mut [u8]) -> Printed {
@@ -14,7 +15,7 @@ fn print(align: u32, out: &mut [u8]) -> Printed {
 
 fn shown(said: &[u8], align: u32) {
     show::words::says(said);
-    let mut out = [0u8; 37];
+    let mut out = [0u8; message_text::printing::ROOM];
     let printed = print(align, &mut out);
     if printed.number != 0 {
         show::write_refused(printed.number, 0);
@@ -27,7 +28,7 @@ fn shown(said: &[u8], align: u32) {
 fn raise(dlc: u32, first: u8) -> u32 {
     let opened = setting::open(0, 0x40000100, 0x000000FF, 1);
     let m = setting::frame(0x200, 0, dlc, first, 7);
-    let raised = receiving::raise(opened.device, 1, 0, m, &mut [0u8; 32]);
+    let raised = receiving::raise(opened.device, 1, 0, m, &mut [0u8; EVENT]);
     raised.number
 }
 

@@ -4,11 +4,13 @@ use recorder::Answer;
 use recorder::Device;
 use recorder::register;
 use recorder::sending;
+use records::events::EVENT;
+use records::messages::MESSAGE;
 ghost use Prim.Native.Nat.{_≤_};
 ghost use lib.ListN.{length};
 
 // The 16 bytes of a message taken, or the refusal.
-fn write_taken(number: u32, used: u32, b: [u8; 16]) {
+fn write_taken(number: u32, used: u32, b: [u8; MESSAGE]) {
     if number != 0 {
         show::write_refused(number, used);
         return;
@@ -19,14 +21,14 @@ fn write_taken(number: u32, used: u32, b: [u8; 16]) {
     show::write_line(show::record_line(b));
 }
 
-fn take(d: Device, used: u32, table: [u8; 16]) {
-    let taken = register::take(d, 0, &table, &mut [0u8; 32]);
+fn take(d: Device, used: u32, table: [u8; MESSAGE]) {
+    let taken = register::take(d, 0, &table, &mut [0u8; EVENT]);
     let b = taken.bytes;
     write_taken(taken.number, used, b);
 }
 
 // Takes the message of a text, where it was sent.
-fn take_sent(sent: Answer, table: [u8; 16]) {
+fn take_sent(sent: Answer, table: [u8; MESSAGE]) {
     let used = show::counted(sent.value);
     if sent.number != 0 {
         show::write_refused(sent.number, used);
@@ -36,7 +38,7 @@ fn take_sent(sent: Answer, table: [u8; 16]) {
 }
 
 fn send(text: &[u8]) {
-    let mut table = [0u8; 16];
+    let mut table = [0u8; MESSAGE];
     let opened = setting::open(0, 0, 0, 1);
     let sent = sending::send_text(opened.device, text, &mut table);
     take_sent(sent, table);

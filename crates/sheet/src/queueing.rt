@@ -4,6 +4,7 @@ use crate::setting;
 use recorder::Answer;
 use recorder::Device;
 use recorder::receiving;
+use records::events::EVENT;
 
 fn wide(b: u8) -> u32 {
     b as u32
@@ -27,7 +28,7 @@ fn write_lead(sign: u8) {
 }
 
 // What was read, as the sign says: a dot shows it, a comma sets it off from the one before, a minus leaves it out.
-fn write_read(number: u32, sign: u8, b: [u8; 32], lost: bool) {
+fn write_read(number: u32, sign: u8, b: [u8; EVENT], lost: bool) {
     if number != 0 {
         return;
     }
@@ -80,7 +81,7 @@ fn case(said: &[u8], script: &[u8], lost: bool, queue: &mut [u8]) {
 
 // A case of capacity 1.
 fn case_of_one(said: &[u8], script: &[u8], lost: bool) {
-    case(said, script, lost, &mut [0u8; 32]);
+    case(said, script, lost, &mut [0u8; EVENT]);
 }
 
 // Events read and events still queued were recorded.
