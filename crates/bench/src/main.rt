@@ -3,8 +3,8 @@ mod input;
 mod page;
 mod sending;
 
+use messages::records::MESSAGE;
 use recorder::Answer;
-use records::messages::MESSAGE;
 use sending::Step;
 ghost use Prim.Native.Nat.{_≤_, _<_};
 

@@ -1,10 +1,10 @@
 // One message text, sent and taken again.
+use events::records::EVENT;
+use messages::records::MESSAGE;
 use recorder::Answer;
 use recorder::Device;
 use recorder::Taken;
 use recorder::register;
-use records::events::EVENT;
-use records::messages::MESSAGE;
 use settings::Settings;
 use show::Line;
 

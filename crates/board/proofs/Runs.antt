@@ -12,7 +12,7 @@ use Rattle.common.specs.Slots.{slot}
 use Rattle.common.specs.Sublist.{Sublist}
 use Rattle.common.proofs.Bools.{and-left, and-right}
 use Rattle.common.proofs.Choices.{by-test, pick-is, passed}
-use Rattle.records.specs.Events.{eventSize}
+use Rattle.events.specs.Records.{eventSize}
 use Rattle.settings.specs.Ranges.{goodShared}
 use Rattle.settings.specs.declared.Settings.{Settings}
 use Rattle.channels.specs.Receiving.{goodReceive, queueFits}

@@ -11,8 +11,8 @@ use Rattle.common.specs.Numbers.{Bytes}
 use Rattle.common.specs.Rings.{slotOf}
 use Rattle.common.specs.Refusals.{isRefusal}
 use Rattle.common.proofs.Choices.{by-test, passed}
-use Rattle.records.specs.Events.{eventSize}
-use Rattle.records.specs.declared.Message.{Message}
+use Rattle.events.specs.Records.{eventSize}
+use Rattle.messages.specs.declared.Message.{Message}
 use Rattle.digits.specs.declared.Printed.{Printed}
 use Rattle.settings.specs.declared.Settings.{Settings}
 use Rattle.channels.specs.Receiving.{usable, queueFits}

@@ -14,8 +14,8 @@ use Rattle.common.proofs.RingFacts.{good-ring}
 use Rattle.ids.specs.Filters.{modeTakes}
 use Rattle.ids.specs.EventMask.{isMask}
 use Rattle.ids.proofs.Frames.{good-header, good-id, good-format}
-use Rattle.records.specs.declared.Message.{Message}
-use Rattle.records.proofs.RoundTrip.{good-refusal}
+use Rattle.messages.specs.declared.Message.{Message}
+use Rattle.messages.proofs.RoundTrip.{good-refusal}
 use Rattle.settings.specs.Ranges.{goodShared}
 use Rattle.settings.specs.TxMode.{goodTx}
 use Rattle.settings.specs.declared.Shared.{Shared}

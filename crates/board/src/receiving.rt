@@ -1,6 +1,6 @@
 // Raising, reading and looking.
 use common::rings;
-use records::events::EVENT;
+use events::records::EVENT;
 ghost use mathlib.Core.Path.{_≡_};
 ghost use mathlib.Core.List.{[]};
 ghost use Rattle.inbox.specs.Calls.{lookedAt};

@@ -1,5 +1,5 @@
 // The transmit register: take, done and abort.
-use records::messages::MESSAGE;
+use messages::records::MESSAGE;
 ghost use mathlib.Core.List.{[]};
 ghost use Rattle.recorder.specs.Outcomes.{Outcome, lends};
 ghost use Rattle.model.specs.Outbox.{take, done, abort};

@@ -6,8 +6,8 @@ use lib.Dec.{leb}
 use Rattle.common.specs.Slots.{slot}
 use Rattle.common.specs.Rings.{goodRing, slotOf, withoutOldest, purged}
 use Rattle.common.specs.declared.Ring.{Ring}
-use Rattle.records.specs.Messages.{messageSize, goodMessage, noMessage}
-use Rattle.records.specs.declared.Message.{Message}
+use Rattle.messages.specs.Records.{messageSize, goodMessage, noMessage}
+use Rattle.messages.specs.declared.Message.{Message}
 use Rattle.settings.specs.TxMode.{goodTx}
 use Rattle.channels.specs.declared.Send.{Send}
 

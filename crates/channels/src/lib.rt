@@ -4,7 +4,7 @@ pub mod sending;
 
 use common::Ring;
 use ids::Filter;
-use records::Message;
+use messages::Message;
 
 // A receive channel: its filter, its event mask, its ring of events, and the lost count that the next recorded
 // event takes.

@@ -2,14 +2,14 @@
 use crate::Send;
 use common::Ring;
 use common::rings;
-use records::Message;
+use messages::Message;
 ghost use mathlib.Core.Path.{_≡_};
 ghost use Prim.Native.Nat.{_≤_, _<_};
 ghost use Rattle.common.specs.Rings.{mostSlots};
 ghost use Rattle.channels.specs.Sending.{goodSend, sendFits, withRing, afterTake, afterDone, afterAbort};
 
 // The bytes of a slot, and the most slots.
-pub const SLOT: usize = records::messages::MESSAGE;
+pub const SLOT: usize = messages::records::MESSAGE;
 
 pub const LIMIT: u32 = 1024;
 
@@ -28,7 +28,7 @@ pub fn is_send(s: Send) -> bool
         return true;
     }
     let m = s.message;
-    records::messages::is_good(m)
+    messages::records::is_good(m)
 }
 
 // A table of n bytes is long enough.
@@ -72,7 +72,7 @@ pub fn after_done(s: Send) -> Send
     ensures { λ n. ⌜ n ≡ afterDone s ⌝ }
 {
     let ring = s.ring;
-    let none = records::messages::no_message();
+    let none = messages::records::no_message();
     Send {
         tx: s.tx,
         ring: ring,

@@ -6,7 +6,7 @@ pub mod reading;
 mod refusals;
 
 use channels::Receive;
-use records::events::EVENT;
+use events::records::EVENT;
 
 // The answer of read_record: the paper's number, the event's bytes, and the channel after the call.
 pub struct ReadOut {

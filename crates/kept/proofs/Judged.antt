@@ -14,8 +14,8 @@ use Rattle.common.proofs.Bools.{and-left, and-right}
 use Rattle.common.proofs.Choices.{by-test}
 use Rattle.ids.specs.Filters.{modeTakes}
 use Rattle.ids.specs.EventMask.{isMask}
-use Rattle.records.specs.Messages.{goodMessage}
-use Rattle.records.specs.declared.Message.{Message}
+use Rattle.messages.specs.Records.{goodMessage}
+use Rattle.messages.specs.declared.Message.{Message}
 use Rattle.settings.specs.Ranges.{goodShared}
 use Rattle.settings.specs.TxMode.{goodTx}
 use Rattle.channels.specs.Receiving.{queueLimit, goodReceive}

@@ -15,7 +15,7 @@ use Rattle.common.specs.Refusals.{isRefusal}
 use Rattle.common.proofs.Bools.{and-left}
 use Rattle.common.proofs.Lists.{copy-fills}
 use Rattle.digits.proofs.Written.{sets-append}
-use Rattle.records.specs.declared.Message.{Message}
+use Rattle.messages.specs.declared.Message.{Message}
 use Rattle.channels.specs.declared.Send.{Send}
 use Rattle.recorder.specs.declared.Device.{Device}
 use Rattle.kept.specs.State.{sharedNumbers, receiveNumbers, sendNumbers, registerNumbers, registerBytes}

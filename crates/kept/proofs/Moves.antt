@@ -6,10 +6,10 @@ use lib.ListN.{length}
 use lib.Dec.{ltb, eqb}
 use Rattle.common.proofs.Choices.{pick-is}
 use Rattle.ids.specs.EventMask.{maskLets}
-use Rattle.records.specs.Events.{codeOf}
-use Rattle.records.specs.declared.Event.{Event}
-use Rattle.records.specs.declared.Message.{Message}
-use Rattle.records.specs.Raised.{filtered, eventOf}
+use Rattle.events.specs.Records.{codeOf}
+use Rattle.events.specs.declared.Event.{Event}
+use Rattle.messages.specs.declared.Message.{Message}
+use Rattle.events.specs.Raised.{filtered, eventOf}
 use Rattle.settings.specs.declared.Shared.{Shared}
 use Rattle.channels.specs.Receiving.{usable, moved}
 use Rattle.inbox.specs.Refusals.{raiseRefusal, recordRefusal, textRefusal}

@@ -15,7 +15,7 @@ use Rattle.common.proofs.Bools.{and-left, and-right}
 use Rattle.common.proofs.Lists.{reads, reads-slice, reads-all}
 use Rattle.common.proofs.Numbers.{number-back, bytes-back}
 use Rattle.recorder.specs.declared.Device.{Device}
-use Rattle.records.proofs.RoundTrip.{reads-bytes}
+use Rattle.messages.proofs.RoundTrip.{reads-bytes}
 use Rattle.kept.specs.State.{sendAt, stateNumbers, wordBytes, stateBytes, word, deviceIn, isState}
 
 -- ---- from a device to its bytes and back

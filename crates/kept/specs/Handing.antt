@@ -4,7 +4,7 @@ use mathlib.Core.Path.{_≡_}
 use mathlib.Core.List.{List}
 use Rattle.common.specs.Choice.{pick}
 use Rattle.common.specs.Refusals.{isRefusal}
-use Rattle.records.specs.declared.Message.{Message}
+use Rattle.messages.specs.declared.Message.{Message}
 use Rattle.recorder.specs.declared.Device.{Device}
 use Rattle.kept.specs.State.{stateBytes}
 

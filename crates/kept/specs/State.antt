@@ -7,7 +7,7 @@ use lib.Seq.{slice}
 use lib.Dec.{leb, eqb}
 use Rattle.common.specs.Choice.{pick}
 use Rattle.common.specs.Numbers.{bytesOf, numberOf}
-use Rattle.records.specs.declared.Message.{Message}
+use Rattle.messages.specs.declared.Message.{Message}
 use Rattle.settings.specs.declared.Shared.{Shared}
 use Rattle.channels.specs.Receiving.{moved}
 use Rattle.channels.specs.declared.Receive.{Receive}

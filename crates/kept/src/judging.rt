@@ -11,7 +11,7 @@ ghost use lib.Dec.{leb, eqb};
 ghost use lib.ListN.{length};
 ghost use Rattle.common.specs.Choice.{pick};
 ghost use Rattle.common.specs.Rings.{goodRing};
-ghost use Rattle.records.specs.Messages.{goodMessage};
+ghost use Rattle.messages.specs.Records.{goodMessage};
 ghost use Rattle.settings.specs.Ranges.{goodShared};
 ghost use Rattle.settings.specs.TxMode.{goodTx};
 ghost use Rattle.channels.specs.Receiving.{goodReceive};
@@ -77,7 +77,7 @@ fn is_register(s: &[u8], at: usize) -> bool
     if 1 < held {
         return false;
     }
-    records::messages::is_good(parts::register_in(s, at + 4))
+    messages::records::is_good(parts::register_in(s, at + 4))
 }
 
 // TxMode and the ring of the send channel are possible.

@@ -5,7 +5,7 @@ use channels::Send;
 use common::Ring;
 use ids::Filter;
 use ids::Header;
-use records::Message;
+use messages::Message;
 use settings::Shared;
 ghost use mathlib.Core.Path.{_≡_};
 ghost use mathlib.Core.List.{_++_};

@@ -9,7 +9,7 @@ use Rattle.digits.proofs.Lengths.{hex-length, fields-length}
 use Rattle.ids.specs.Frames.{carried, shownId}
 use Rattle.ids.specs.declared.Header.{Header}
 use Rattle.ids.proofs.Frames.{carried-le}
-use Rattle.records.specs.declared.Message.{Message}
+use Rattle.messages.specs.declared.Message.{Message}
 use Rattle.message_text.specs.Printing.{messageText, messageLine}
 
 taken-le : (n : ℕ) (b : List ℕ) → length (take n b) ≤ n

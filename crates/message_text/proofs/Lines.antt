@@ -7,7 +7,7 @@ use Rattle.digits.specs.Ascii.{ascii}
 use Rattle.digits.specs.Digits.{hexDigit, hex, fields}
 use Rattle.ids.specs.Ids.{idLow}
 use Rattle.ids.specs.Frames.{carried}
-use Rattle.records.specs.declared.Message.{Message}
+use Rattle.messages.specs.declared.Message.{Message}
 use Rattle.message_text.specs.Printing.{messageText, messageLine}
 
 pub record Row : Type 0 where

@@ -18,10 +18,10 @@ use Rattle.ids.specs.declared.Id.{Id}
 use Rattle.ids.specs.declared.Id.the-variants.{Good, Bad}
 use Rattle.ids.proofs.Frames.{good-header}
 use Rattle.ids.proofs.RoundTrip.{good-aligned}
-use Rattle.records.specs.Messages.{goodMessage, messageIn, isMessage, judgeMessage}
-use Rattle.records.specs.declared.Message.{Message}
-use Rattle.records.specs.declared.JudgedMessage.{JudgedMessage}
-use Rattle.records.proofs.RoundTrip.{good-is, message-as, judged-good}
+use Rattle.messages.specs.Records.{goodMessage, messageIn, isMessage, judgeMessage}
+use Rattle.messages.specs.declared.Message.{Message}
+use Rattle.messages.specs.declared.JudgedMessage.{JudgedMessage}
+use Rattle.messages.proofs.RoundTrip.{good-is, message-as, judged-good}
 use Rattle.message_text.specs.Printing.{messageText, messageLine, messageRefusal, messageRecordRefusal}
 use Rattle.digits.proofs.Answers.{line-printed, passed}
 use Rattle.message_text.proofs.Length.{message-line-le}

@@ -23,8 +23,8 @@ use Rattle.ids.specs.declared.Id.the-variants.{Good}
 use Rattle.ids.proofs.Fields.{id-in-word}
 use Rattle.ids.proofs.Frames.{HeaderFacts, good-header, carried-le}
 use Rattle.ids.proofs.RoundTrip.{good-aligned, read-back}
-use Rattle.records.specs.Messages.{goodMessage}
-use Rattle.records.specs.declared.Message.{Message}
+use Rattle.messages.specs.Records.{goodMessage}
+use Rattle.messages.specs.declared.Message.{Message}
 use Rattle.message_text.specs.Numbers.{Place, between, within, grown, isEnd}
 use Rattle.message_text.specs.Numbers.{numbersFrom, numbers, beforeEnd, endRun, usedOf}
 use Rattle.message_text.specs.Reading.{allBytes, judgedData, judged, readMessage}

@@ -7,8 +7,8 @@ use Rattle.common.specs.Choice.{pick}
 use Rattle.digits.specs.Digits.{hex, fields}
 use Rattle.ids.specs.Frames.{headerRefusal, carried, shownId}
 use Rattle.ids.specs.declared.Header.{Header}
-use Rattle.records.specs.Messages.{isMessage}
-use Rattle.records.specs.declared.Message.{Message}
+use Rattle.messages.specs.Records.{isMessage}
+use Rattle.messages.specs.declared.Message.{Message}
 
 -- text output needs room for the longest line: 37 bytes for a message, whatever the line
 abbrev pub messageRoom : ℕ

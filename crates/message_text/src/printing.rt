@@ -3,12 +3,12 @@ use digits::Printed;
 use digits::writing;
 use ids::Header;
 use ids::Id;
-use records::Message;
+use messages::Message;
 ghost use mathlib.Core.Path.{_≡_};
 ghost use Prim.Native.Nat.{_≤_};
 ghost use lib.ListN.{length};
 ghost use Rattle.digits.specs.Written.{Put, Prints, notPrinted};
-ghost use Rattle.records.specs.Messages.{messageIn};
+ghost use Rattle.messages.specs.Records.{messageIn};
 ghost use Rattle.message_text.specs.Printing.{messageText, messageLine, messageRefusal, messageRecordRefusal};
 
 // The room that the longest line needs.
@@ -74,7 +74,7 @@ pub fn print_record(align: u32, s: &[u8], out: &mut [u8]) -> Printed
     if 3 < align {
         return refuse(1);
     }
-    let j = records::messages::judge_message(s);
+    let j = messages::records::judge_message(s);
     if !j.good {
         return refuse(14);
     }

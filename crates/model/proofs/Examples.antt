@@ -7,10 +7,10 @@ use Rattle.ids.specs.Ids.{rawOf, idLow, idBits, isFormat}
 use Rattle.ids.specs.Filters.{modeTakes}
 use Rattle.ids.specs.Frames.{carried}
 use Rattle.ids.specs.EventMask.{maskLets, maskBit}
-use Rattle.records.specs.Events.{holdsFrame, kindOf, stamped}
-use Rattle.records.specs.Messages.{noMessage, stored}
-use Rattle.records.specs.Raised.{eventOf, filtered}
-use Rattle.records.specs.declared.Message.{Message}
+use Rattle.events.specs.Records.{holdsFrame, kindOf, stamped}
+use Rattle.messages.specs.Records.{noMessage, stored}
+use Rattle.events.specs.Raised.{eventOf, filtered}
+use Rattle.messages.specs.declared.Message.{Message}
 use Rattle.settings.specs.Binary.{binaryRefusal}
 use Rattle.settings.specs.Ranges.{formatOf}
 use Rattle.settings.specs.TxMode.{raisesAtTake, raisesAtDone}

@@ -11,10 +11,10 @@ use Rattle.common.specs.Choice.{pick}
 use Rattle.common.proofs.Bools.{apart}
 use Rattle.common.proofs.Choices.{by-test, pick-is}
 use Rattle.ids.specs.EventMask.{maskLets}
-use Rattle.records.specs.Events.{codeOf, stamped}
-use Rattle.records.specs.Raised.{frameRefusal, eventOf, filtered}
-use Rattle.records.specs.declared.Event.{Event}
-use Rattle.records.specs.declared.Message.{Message}
+use Rattle.events.specs.Records.{codeOf, stamped}
+use Rattle.events.specs.Raised.{frameRefusal, eventOf, filtered}
+use Rattle.events.specs.declared.Event.{Event}
+use Rattle.messages.specs.declared.Message.{Message}
 use Rattle.settings.specs.declared.Shared.{Shared}
 use Rattle.settings.specs.declared.Settings.{Settings}
 use Rattle.model.specs.Inbox.{keeps, Inbox, recording, losing, meets, arrival}

@@ -13,10 +13,10 @@ use Rattle.common.specs.Sublist.{none, keep, skip}
 use Rattle.common.proofs.Sublists.{sublist-append}
 use Rattle.ids.specs.EventMask.{maskLets, isMask}
 use Rattle.ids.specs.declared.Filter.{Filter}
-use Rattle.records.specs.Events.{codeOf}
-use Rattle.records.specs.Messages.{noMessage}
-use Rattle.records.specs.Raised.{filtered, frameRefusal, eventOf}
-use Rattle.records.specs.declared.Event.{Event}
+use Rattle.events.specs.Records.{codeOf}
+use Rattle.messages.specs.Records.{noMessage}
+use Rattle.events.specs.Raised.{filtered, frameRefusal, eventOf}
+use Rattle.events.specs.declared.Event.{Event}
 use Rattle.event_text.specs.Lines.{eventRoom}
 use Rattle.settings.specs.Ranges.{goodShared}
 use Rattle.settings.specs.declared.Shared.{Shared}

@@ -8,10 +8,10 @@ use lib.Dec.{ltb, eqb}
 use borrow.Author.Tests.{ltb-true, ltb-false}
 use Rattle.common.proofs.Choices.{pick-is}
 use Rattle.ids.specs.EventMask.{maskLets, isMask}
-use Rattle.records.specs.Events.{codeOf}
-use Rattle.records.specs.Messages.{noMessage}
-use Rattle.records.specs.Raised.{filtered, frameRefusal, eventOf}
-use Rattle.records.specs.declared.Event.{Event}
+use Rattle.events.specs.Records.{codeOf}
+use Rattle.messages.specs.Records.{noMessage}
+use Rattle.events.specs.Raised.{filtered, frameRefusal, eventOf}
+use Rattle.events.specs.declared.Event.{Event}
 use Rattle.event_text.specs.Lines.{eventRoom}
 use Rattle.settings.specs.Ranges.{goodShared}
 use Rattle.settings.specs.declared.Shared.{Shared}

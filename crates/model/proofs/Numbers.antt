@@ -13,9 +13,9 @@ use Rattle.ids.specs.Ids.{isFormat, idBits, rawOf, isBad}
 use Rattle.ids.specs.Filters.{modeTakes}
 use Rattle.ids.specs.Frames.{headerRefusal}
 use Rattle.ids.specs.declared.Header.{Header}
-use Rattle.records.specs.Events.{holdsFrame}
-use Rattle.records.specs.Raised.{frameRefusal}
-use Rattle.records.specs.declared.Message.{Message}
+use Rattle.events.specs.Records.{holdsFrame}
+use Rattle.events.specs.Raised.{frameRefusal}
+use Rattle.messages.specs.declared.Message.{Message}
 use Rattle.settings.specs.Binary.{sentFormat, binaryRefusal}
 use Rattle.settings.specs.declared.Shared.{Shared}
 use Rattle.model.proofs.Choices.{either}

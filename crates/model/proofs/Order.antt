@@ -6,7 +6,7 @@ use native.Mathlib.Omega.{arith}
 use lib.ListN.{length}
 use Rattle.common.specs.Sublist.{Sublist, none, keep, skip}
 use Rattle.common.proofs.Sublists.{sublist-append}
-use Rattle.records.specs.declared.Event.{Event}
+use Rattle.events.specs.declared.Event.{Event}
 use Rattle.settings.specs.declared.Settings.{Settings}
 use Rattle.model.specs.Inbox.{Kept, keeps, Inbox}
 use Rattle.model.specs.Box.{Box, fresh, Call, step, Asked, run}

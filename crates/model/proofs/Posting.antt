@@ -7,9 +7,9 @@ use lib.ListN.{length}
 use lib.Dec.{ltb, eqb}
 use borrow.Author.Tests.{ltb-true}
 use Rattle.common.proofs.Choices.{pick-is}
-use Rattle.records.specs.Messages.{messageSize}
-use Rattle.records.specs.Raised.{frameRefusal}
-use Rattle.records.specs.declared.Message.{Message}
+use Rattle.messages.specs.Records.{messageSize}
+use Rattle.events.specs.Raised.{frameRefusal}
+use Rattle.messages.specs.declared.Message.{Message}
 use Rattle.message_text.specs.Reading.{readMessage}
 use Rattle.message_text.specs.declared.Said.{Said as TextSaid}
 use Rattle.message_text.specs.declared.Answer.{Answer}

@@ -4,8 +4,8 @@ use mathlib.Core.Path.{_≡_}
 use mathlib.Core.List.{List, [], _∷_, _++_, map, map-append, append-assoc}
 use native.Mathlib.Omega.{arith}
 use lib.ListN.{length, length-append}
-use Rattle.records.specs.Events.{stamped}
-use Rattle.records.specs.declared.Event.{Event}
+use Rattle.events.specs.Records.{stamped}
+use Rattle.events.specs.declared.Event.{Event}
 use Rattle.model.specs.Inbox.{Kept, keeps, Inbox, recording, reading}
 use Rattle.model.specs.Promised.{recorded, apart}
 

@@ -16,11 +16,11 @@ use Rattle.ids.specs.Ids.{isFormat}
 use Rattle.ids.specs.Frames.{headerRefusal}
 use Rattle.ids.specs.Filters.{modeTakes}
 use Rattle.ids.specs.EventMask.{isMask}
-use Rattle.records.specs.Messages.{isMessage, messageIn}
-use Rattle.records.specs.Events.{isEvent, eventIn}
-use Rattle.records.specs.Raised.{frameRefusal}
-use Rattle.records.specs.declared.Event.{Event}
-use Rattle.records.specs.declared.Message.{Message}
+use Rattle.messages.specs.Records.{isMessage, messageIn}
+use Rattle.events.specs.Records.{isEvent, eventIn}
+use Rattle.events.specs.Raised.{frameRefusal}
+use Rattle.events.specs.declared.Event.{Event}
+use Rattle.messages.specs.declared.Message.{Message}
 use Rattle.message_text.specs.Numbers.{usedOf}
 use Rattle.message_text.specs.Printing.{messageRoom, messageLine, messageRefusal, messageRecordRefusal}
 use Rattle.message_text.specs.Reading.{refused}

@@ -6,7 +6,7 @@ use mathlib.Core.List.{List, [], _∷_}
 use lib.Dec.{eqb}
 use Rattle.common.specs.Numbers.{among}
 use Rattle.common.proofs.Choices.{pick-is}
-use Rattle.records.specs.Raised.{frameRefusal}
+use Rattle.events.specs.Raised.{frameRefusal}
 use Rattle.settings.specs.Ranges.{goodShared}
 use Rattle.settings.specs.declared.Shared.{Shared}
 use Rattle.model.specs.Box.{Box, Step, DeviceCall, raise, setMode, setFormat, changes, does}

@@ -7,11 +7,11 @@ use mathlib.Core.List.{List, [], _∷_}
 use mathlib.Core.Option.{Option, none, some}
 use lib.Dec.{eqb}
 use Rattle.common.specs.Choice.{pick}
-use Rattle.records.specs.Messages.{messageIn, noMessage}
-use Rattle.records.specs.Events.{eventIn}
-use Rattle.records.specs.Raised.{frameRefusal, eventOf}
-use Rattle.records.specs.declared.Message.{Message}
-use Rattle.records.specs.declared.Event.{Event}
+use Rattle.messages.specs.Records.{messageIn, noMessage}
+use Rattle.events.specs.Records.{eventIn}
+use Rattle.events.specs.Raised.{frameRefusal, eventOf}
+use Rattle.messages.specs.declared.Message.{Message}
+use Rattle.events.specs.declared.Event.{Event}
 use Rattle.message_text.specs.Printing.{messageLine, messageRefusal, messageRecordRefusal}
 use Rattle.event_text.specs.Lines.{eventLine, eventRecordRefusal}
 use Rattle.settings.specs.Ranges.{goodShared}

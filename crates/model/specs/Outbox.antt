@@ -7,10 +7,10 @@ use mathlib.Core.Option.{Option, none, some}
 use lib.ListN.{length}
 use lib.Dec.{ltb, eqb}
 use Rattle.common.specs.Choice.{pick}
-use Rattle.records.specs.Messages.{messageSize, messageBytes}
-use Rattle.records.specs.Raised.{eventOf}
-use Rattle.records.specs.declared.Message.{Message}
-use Rattle.records.specs.declared.Event.{Event}
+use Rattle.messages.specs.Records.{messageSize, messageBytes}
+use Rattle.events.specs.Raised.{eventOf}
+use Rattle.messages.specs.declared.Message.{Message}
+use Rattle.events.specs.declared.Event.{Event}
 use Rattle.message_text.specs.Reading.{readMessage, parsedNumber, usedBy}
 use Rattle.message_text.specs.declared.Said.{Said as TextSaid}
 use Rattle.message_text.specs.declared.Answer.{Answer}

@@ -8,10 +8,10 @@ use lib.ListN.{length}
 use lib.Dec.{eqb}
 use Rattle.common.specs.Choice.{pick}
 use Rattle.common.specs.Sublist.{Sublist}
-use Rattle.records.specs.Messages.{messageBytes}
-use Rattle.records.specs.Events.{stamped}
-use Rattle.records.specs.declared.Event.{Event}
-use Rattle.records.specs.declared.Message.{Message}
+use Rattle.messages.specs.Records.{messageBytes}
+use Rattle.events.specs.Records.{stamped}
+use Rattle.events.specs.declared.Event.{Event}
+use Rattle.messages.specs.declared.Message.{Message}
 use Rattle.settings.specs.declared.Settings.{Settings}
 use Rattle.model.specs.Inbox.{Kept, keeps, Inbox}
 use Rattle.model.specs.Outbox.{Gone, took, purged, Outbox, Posted}

@@ -12,10 +12,10 @@ use Rattle.common.specs.Rings.{goodRing, slotOf}
 use Rattle.common.proofs.Bools.{apart, and-left, and-right, said, denied}
 use Rattle.common.proofs.Choices.{by-test, pick-is, passed, stopped}
 use Rattle.common.proofs.RingFacts.{RingFacts, good-ring, slot-part}
-use Rattle.records.specs.Messages.{messageSize, goodMessage, messageIn, isMessage, judgeMessage}
-use Rattle.records.proofs.RoundTrip.{good-is, message-as}
-use Rattle.records.specs.declared.Message.{Message}
-use Rattle.records.specs.declared.JudgedMessage.{JudgedMessage}
+use Rattle.messages.specs.Records.{messageSize, goodMessage, messageIn, isMessage, judgeMessage}
+use Rattle.messages.proofs.RoundTrip.{good-is, message-as}
+use Rattle.messages.specs.declared.Message.{Message}
+use Rattle.messages.specs.declared.JudgedMessage.{JudgedMessage}
 use Rattle.settings.specs.TxMode.{goodTx, raisesAtTake, raisesAtDone}
 use Rattle.settings.specs.Ranges.{goodShared}
 use Rattle.settings.specs.Binary.{binaryRefusal, brought}

@@ -8,8 +8,8 @@ use lib.Dec.{eqb}
 use Rattle.common.specs.Choice.{pick}
 use Rattle.common.specs.Slots.{store}
 use Rattle.common.specs.Rings.{slotOf, withOneMore}
-use Rattle.records.specs.Messages.{messageSize, messageBytes, messageIn, noMessage}
-use Rattle.records.specs.declared.Message.{Message}
+use Rattle.messages.specs.Records.{messageSize, messageBytes, messageIn, noMessage}
+use Rattle.messages.specs.declared.Message.{Message}
 use Rattle.message_text.specs.Reading.{readMessage, parsedNumber, usedBy}
 use Rattle.message_text.specs.declared.Answer.{Answer}
 use Rattle.message_text.specs.declared.Answer.the-variants.{Taken, Refused}

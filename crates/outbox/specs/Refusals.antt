@@ -5,7 +5,7 @@ use mathlib.Core.List.{List}
 use lib.ListN.{length}
 use lib.Dec.{ltb, eqb}
 use Rattle.common.specs.Choice.{pick}
-use Rattle.records.specs.Messages.{messageIn, isMessage, noMessage}
+use Rattle.messages.specs.Records.{messageIn, isMessage, noMessage}
 use Rattle.settings.specs.Ranges.{goodShared}
 use Rattle.settings.specs.declared.Shared.{Shared}
 use Rattle.channels.specs.Sending.{goodSend, sendFits, oldest}

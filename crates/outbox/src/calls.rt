@@ -7,13 +7,13 @@ use crate::moves;
 use crate::refusals;
 use channels::Send;
 use channels::sending;
-use records::Message;
-use records::messages::MESSAGE;
+use messages::Message;
+use messages::records::MESSAGE;
 use settings::Shared;
 ghost use mathlib.Core.Path.{_≡_};
 ghost use mathlib.Core.List.{[]};
 ghost use lib.ListN.{replicate};
-ghost use Rattle.records.specs.Messages.{messageSize};
+ghost use Rattle.messages.specs.Records.{messageSize};
 ghost use Rattle.outbox.specs.Calls.{sentOf, takenOf, emptiedOf, WriteMet, refused, reads, usedBeside};
 ghost use Rattle.outbox.specs.Calls.{sent, textSent, taken, finished, aborted};
 
@@ -32,7 +32,7 @@ fn not_taken(number: u32, s: Send) -> Taken
     ensures { λ r. ⌜ r ≡ takenOf (refused number 0 (replicate messageSize 0) s []) ⌝ }
 {
     let b = [0u8; MESSAGE];
-    let none = moves::raised_if(false, 0, 0, records::messages::no_message());
+    let none = moves::raised_if(false, 0, 0, messages::records::no_message());
     Taken {
         number: number,
         bytes: b,
@@ -44,7 +44,7 @@ fn not_taken(number: u32, s: Send) -> Taken
 fn not_emptied(number: u32, s: Send) -> Emptied
     ensures { λ r. ⌜ r ≡ emptiedOf (refused number 0 [] s []) ⌝ }
 {
-    let none = moves::raised_if(false, 0, 0, records::messages::no_message());
+    let none = moves::raised_if(false, 0, 0, messages::records::no_message());
     Emptied {
         number: number,
         value: 0,
@@ -74,7 +74,7 @@ fn read(h: Shared, text: &[u8]) -> Read
     let said = message_text::reading::read_message(h.align, format, text);
     let answer = said.answer;
     let message_text::Answer::Taken(head, used) = answer else {
-        let none = records::messages::no_message();
+        let none = messages::records::no_message();
         return Read {
             number: message_text::reading::number_of(answer),
             used: message_text::reading::used_by(answer),

@@ -5,8 +5,8 @@ mod moves;
 mod refusals;
 
 use channels::Send;
-use records::Message;
-use records::messages::MESSAGE;
+use messages::Message;
+use messages::records::MESSAGE;
 
 // The event that a call raises, to be carried to a receive channel: its code, or 0 for none, tick and message.
 pub struct Raised {

@@ -4,14 +4,14 @@ use crate::Sent;
 use channels::Send;
 use channels::sending;
 use common::rings;
-use records::JudgedMessage;
-use records::Message;
-use records::messages::MESSAGE;
+use messages::JudgedMessage;
+use messages::Message;
+use messages::records::MESSAGE;
 ghost use mathlib.Core.Path.{_≡_};
 ghost use mathlib.Core.Bool.{true};
 ghost use Prim.Native.Nat.{_<_};
 ghost use lib.ListN.{length};
-ghost use Rattle.records.specs.Messages.{messageBytes, judgeMessage};
+ghost use Rattle.messages.specs.Records.{messageBytes, judgeMessage};
 ghost use Rattle.channels.specs.Sending.{goodSend, sendFits, oldest};
 ghost use Rattle.outbox.specs.Calls.{raisedIf, puts, WriteMet};
 
@@ -22,7 +22,7 @@ pub fn oldest(s: Send, table: &[u8]) -> JudgedMessage
 {
     let ring = s.ring;
     let at = sending::SLOT * (rings::slot_of(ring, 0) as usize);
-    records::messages::judge_message(&table[at..at + sending::SLOT])
+    messages::records::judge_message(&table[at..at + sending::SLOT])
 }
 
 // A message's bytes, by value.
@@ -30,7 +30,7 @@ pub fn bytes_of(m: Message) -> [u8; MESSAGE]
     ensures { λ b. ⌜ b ≡ messageBytes m ⌝ }
 {
     let mut b = [0u8; MESSAGE];
-    records::messages::write_message(&mut b, m);
+    messages::records::write_message(&mut b, m);
     b
 }
 
@@ -45,7 +45,7 @@ pub fn raised_if(test: bool, code: u32, tick: u32, m: Message) -> Raised
             message: m,
         };
     }
-    let none = records::messages::no_message();
+    let none = messages::records::no_message();
     Raised {
         code: 0,
         tick: 0,
@@ -61,7 +61,7 @@ pub fn put(s: Send, m: Message, value: usize, table: &mut [u8]) -> Sent
 {
     let ring = s.ring;
     let at = sending::SLOT * (rings::slot_of(ring, ring.count) as usize);
-    records::messages::write_message(&mut table[at..at + sending::SLOT], m);
+    messages::records::write_message(&mut table[at..at + sending::SLOT], m);
     let next = sending::with_ring(s, rings::with_one_more(ring));
     Sent {
         number: 0,

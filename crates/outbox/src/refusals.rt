@@ -65,7 +65,7 @@ fn wait_refusal(h: Shared, s: Send, n: usize) -> u32
 fn not_found(number: u32) -> Found
     ensures { λ f. ⌜ f ≡ notFound number ⌝ }
 {
-    let none = records::messages::no_message();
+    let none = messages::records::no_message();
     Found {
         number: number,
         message: none,

@@ -11,12 +11,12 @@ use lib.Dec.{ltb}
 use Rattle.common.specs.Choice.{pick}
 use Rattle.common.proofs.Bools.{apart}
 use Rattle.ids.specs.EventMask.{maskLets}
-use Rattle.records.specs.Messages.{goodMessage}
-use Rattle.records.specs.Events.{eventSize, codeOf, stamped}
-use Rattle.records.specs.Raised.{filtered}
-use Rattle.records.specs.declared.Message.{Message}
-use Rattle.records.specs.declared.Event.{Event}
-use Rattle.records.proofs.EventRoundTrip.{event-bytes-length}
+use Rattle.messages.specs.Records.{goodMessage}
+use Rattle.events.specs.Records.{eventSize, codeOf, stamped}
+use Rattle.events.specs.Raised.{filtered}
+use Rattle.messages.specs.declared.Message.{Message}
+use Rattle.events.specs.declared.Event.{Event}
+use Rattle.events.proofs.RoundTrip.{event-bytes-length}
 use Rattle.settings.specs.declared.Shared.{Shared}
 use Rattle.channels.specs.Receiving.{queueLimit, goodReceive, usable}
 use Rattle.inbox.specs.Refusals.{possible, ready}

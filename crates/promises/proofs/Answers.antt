@@ -9,10 +9,10 @@ use lib.Dec.{ltb, eqb}
 use Rattle.common.specs.Choice.{pick}
 use Rattle.common.proofs.Choices.{pick-is}
 use Rattle.ids.specs.EventMask.{maskLets, isMask}
-use Rattle.records.specs.Messages.{messageBytes, noMessage}
-use Rattle.records.specs.Events.{eventSize, codeOf, eventBytes}
-use Rattle.records.specs.Raised.{frameRefusal, eventOf, filtered}
-use Rattle.records.specs.declared.Event.{Event}
+use Rattle.messages.specs.Records.{messageBytes, noMessage}
+use Rattle.events.specs.Records.{eventSize, codeOf, eventBytes}
+use Rattle.events.specs.Raised.{frameRefusal, eventOf, filtered}
+use Rattle.events.specs.declared.Event.{Event}
 use Rattle.event_text.specs.Lines.{eventRoom, eventLine}
 use Rattle.settings.specs.Ranges.{goodShared}
 use Rattle.settings.specs.declared.Settings.{Settings}

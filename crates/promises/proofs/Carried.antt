@@ -8,9 +8,9 @@ use lib.ListN.{length, length-map, take, drop}
 use Rattle.common.specs.Numbers.{among}
 use Rattle.common.specs.Sublist.{Sublist}
 use Rattle.common.proofs.Sublists.{sublist-map}
-use Rattle.records.specs.Messages.{messageBytes}
-use Rattle.records.specs.Events.{stamped}
-use Rattle.records.proofs.EventRoundTrip.{lost-back, apart-lost}
+use Rattle.messages.specs.Records.{messageBytes}
+use Rattle.events.specs.Records.{stamped}
+use Rattle.events.proofs.RoundTrip.{lost-back, apart-lost}
 use Rattle.settings.specs.Ranges.{goodShared}
 use Rattle.settings.specs.declared.Settings.{Settings}
 use Rattle.recorder.specs.Outcomes.{Lent}

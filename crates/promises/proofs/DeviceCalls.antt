@@ -8,10 +8,10 @@ use lib.ListN.{length}
 use lib.Dec.{eqb}
 use borrow.Author.Tests.{eqb-true}
 use Rattle.common.proofs.Choices.{by-test}
-use Rattle.records.specs.Messages.{noMessage}
-use Rattle.records.specs.Events.{holdsFrame}
-use Rattle.records.specs.Raised.{eventOf, frameRefusal}
-use Rattle.records.specs.declared.Message.{Message}
+use Rattle.messages.specs.Records.{noMessage}
+use Rattle.events.specs.Records.{holdsFrame}
+use Rattle.events.specs.Raised.{eventOf, frameRefusal}
+use Rattle.messages.specs.declared.Message.{Message}
 use Rattle.settings.specs.Ranges.{goodShared}
 use Rattle.settings.specs.declared.Shared.{Shared}
 use Rattle.channels.specs.Receiving.{queueFits}

@@ -15,10 +15,10 @@ use Rattle.ids.specs.Ids.{isFormat}
 use Rattle.ids.specs.Filters.{letThrough}
 use Rattle.ids.specs.EventMask.{maskLets, isMask}
 use Rattle.ids.specs.Frames.{headerRefusal}
-use Rattle.records.specs.declared.Message.{Message}
-use Rattle.records.specs.Events.{eventSize, codeOf, eventIn, isEvent}
-use Rattle.records.specs.Messages.{messageSize, isMessage, noMessage}
-use Rattle.records.specs.declared.Event.{Event}
+use Rattle.messages.specs.declared.Message.{Message}
+use Rattle.events.specs.Records.{eventSize, codeOf, eventIn, isEvent}
+use Rattle.messages.specs.Records.{messageSize, isMessage, noMessage}
+use Rattle.events.specs.declared.Event.{Event}
 use Rattle.channels.specs.Receiving.{goodReceive, queueFits, slotAt, usable, afterRead, withFilter, withEvents}
 use Rattle.inbox.specs.Refusals.{ready, raiseRefusal, oldestRefusal, recordRefusal, textRefusal}
 use Rattle.inbox.specs.Refusals.{lookRefusal, filterRefusal, maskRefusal, throughRefusal}
@@ -26,7 +26,7 @@ use Rattle.inbox.specs.Refusals as Judged
 use Rattle.inbox.specs.Calls.{Raising, raises, queued, unfiltered, meets, looked}
 use Rattle.inbox.specs.Calls as Queue
 use Rattle.inbox.proofs.Laws.{raise-number}
-use Rattle.records.specs.Raised.{filtered, eventOf}
+use Rattle.events.specs.Raised.{filtered, eventOf}
 use Rattle.channels.specs.declared.Receive.{Receive}
 use Rattle.channels.specs.Sending.{goodSend, sendFits, oldest}
 use Rattle.outbox.specs.Refusals.{possible, putRefusal, waitRefusal, takeRefusal, doneRefusal, abortRefusal}

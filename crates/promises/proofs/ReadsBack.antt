@@ -12,10 +12,10 @@ use Rattle.common.specs.Slots.{store}
 use Rattle.common.proofs.Bools.{and-left, and-right}
 use Rattle.common.proofs.Numbers.{bytes-take, bytes-drop}
 use Rattle.common.proofs.RingFacts.{RingFacts, good-ring}
-use Rattle.records.specs.Messages.{messageSize, goodMessage, messageBytes, messageIn, isMessage, judgeMessage}
-use Rattle.records.specs.declared.Message.{Message}
-use Rattle.records.proofs.RoundTrip.{good-refusal, message-bytes-length, good-is, message-as}
-use Rattle.records.proofs.RoundTrip.{judged-good, judged-length, bytes-of-message}
+use Rattle.messages.specs.Records.{messageSize, goodMessage, messageBytes, messageIn, isMessage, judgeMessage}
+use Rattle.messages.specs.declared.Message.{Message}
+use Rattle.messages.proofs.RoundTrip.{good-refusal, message-bytes-length, good-is, message-as}
+use Rattle.messages.proofs.RoundTrip.{judged-good, judged-length, bytes-of-message}
 use Rattle.message_text.specs.Reading.{readMessage}
 use Rattle.message_text.specs.Printing.{messageRoom, messageLine, messageRefusal, messageRecordRefusal}
 use Rattle.message_text.specs.declared.Answer.the-variants.{Taken}

@@ -14,8 +14,8 @@ use Rattle.common.proofs.Bools.{and-left}
 use Rattle.common.proofs.Choices.{by-test}
 use Rattle.ids.specs.Ids.{isFormat}
 use Rattle.ids.specs.EventMask.{isMask}
-use Rattle.records.specs.Events.{eventSize, eventBytes, isEvent, eventIn}
-use Rattle.records.specs.declared.Event.{Event}
+use Rattle.events.specs.Records.{eventSize, eventBytes, isEvent, eventIn}
+use Rattle.events.specs.declared.Event.{Event}
 use Rattle.event_text.specs.Lines.{eventRoom, eventLine}
 use Rattle.channels.specs.Receiving.{queueLimit, queueFits, slotAt, afterRead}
 use Rattle.inbox.specs.Refusals.{ready, oldestRefusal, recordRefusal, textRefusal}

@@ -11,10 +11,10 @@ use borrow.Author.Tests.{eq-eqb, ne-eqb, eqb-true}
 use Rattle.common.specs.Choice.{pick}
 use Rattle.common.proofs.Bools.{denied}
 use Rattle.common.proofs.Choices.{by-test}
-use Rattle.records.specs.Messages.{messageSize, messageBytes, noMessage}
-use Rattle.records.specs.Raised.{eventOf}
-use Rattle.records.specs.declared.Message.{Message}
-use Rattle.records.proofs.RoundTrip.{message-bytes-length}
+use Rattle.messages.specs.Records.{messageSize, messageBytes, noMessage}
+use Rattle.events.specs.Raised.{eventOf}
+use Rattle.messages.specs.declared.Message.{Message}
+use Rattle.messages.proofs.RoundTrip.{message-bytes-length}
 use Rattle.message_text.specs.Numbers.{usedOf}
 use Rattle.message_text.specs.Reading.{readMessage}
 use Rattle.message_text.proofs.Cases.{read-is}

@@ -20,16 +20,16 @@ use Rattle.ids.specs.Frames.{headerRefusal, carried}
 use Rattle.ids.specs.Filters.{isFilter, filterLow, dataCompared, free, fieldMeets, idPasses}
 use Rattle.ids.specs.Filters.{byteMeets, dataPasses, modeTakes, framePasses, freeBits, letThrough}
 use Rattle.ids.specs.EventMask.{maskBit, maskLets}
-use Rattle.records.specs.Messages.{messageSize, stored, goodMessage, messageBytes}
-use Rattle.records.specs.Messages.{messageIn, isMessage, noMessage, judgeMessage}
-use Rattle.records.specs.Events.{eventSize, holdsFrame, kindOf, eventBytes, eventIn, isEvent}
-use Rattle.records.specs.declared.Message.{Message}
+use Rattle.messages.specs.Records.{messageSize, stored, goodMessage, messageBytes}
+use Rattle.messages.specs.Records.{messageIn, isMessage, noMessage, judgeMessage}
+use Rattle.events.specs.Records.{eventSize, holdsFrame, kindOf, eventBytes, eventIn, isEvent}
+use Rattle.messages.specs.declared.Message.{Message}
 use Rattle.channels.specs.Receiving.{goodReceive}
 use Rattle.inbox.specs.Refusals.{ready, raiseRefusal, oldestRefusal, recordRefusal, textRefusal, throughRefusal}
 use Rattle.inbox.specs.Refusals as Judged
 use Rattle.inbox.specs.Calls.{queued, unfiltered, meets}
 use Rattle.inbox.specs.Calls as Queue
-use Rattle.records.specs.Raised.{filtered, eventOf}
+use Rattle.events.specs.Raised.{filtered, eventOf}
 use Rattle.channels.specs.Sending.{goodSend}
 use Rattle.outbox.specs.Refusals.{possible, usable, putRefusal}
 use Rattle.outbox.specs.Calls as Outbox

@@ -14,14 +14,14 @@ use Rattle.common.proofs.Numbers.{zeros-bytes, bytes-append, bytes-take}
 use Rattle.ids.specs.Ids.{isFormat, rawOf, isBad, idNumber}
 use Rattle.ids.specs.Frames.{headerRefusal, carried}
 use Rattle.ids.specs.Filters.{modeTakes}
-use Rattle.records.specs.Messages.{stored, goodMessage, messageBytes, messageIn, isMessage}
-use Rattle.records.specs.Events.{holdsFrame, kindOf, stamped, goodEvent, eventBytes, isEvent, eventIn}
-use Rattle.records.specs.Raised.{eventOf, frameRefusal}
-use Rattle.records.specs.declared.Message.{Message}
-use Rattle.records.specs.declared.Event.{Event}
-use Rattle.records.specs.declared.Kind.the-variants.{Other}
-use Rattle.records.proofs.RoundTrip.{stored-length, stored-good, message-back, good-is, message-in-back, good-refusal}
-use Rattle.records.proofs.EventRoundTrip.{event-back, event-good-is, event-as}
+use Rattle.messages.specs.Records.{stored, goodMessage, messageBytes, messageIn, isMessage}
+use Rattle.events.specs.Records.{holdsFrame, kindOf, stamped, goodEvent, eventBytes, isEvent, eventIn}
+use Rattle.events.specs.Raised.{eventOf, frameRefusal}
+use Rattle.messages.specs.declared.Message.{Message}
+use Rattle.events.specs.declared.Event.{Event}
+use Rattle.events.specs.declared.Kind.the-variants.{Other}
+use Rattle.messages.proofs.RoundTrip.{stored-length, stored-good, message-back, good-is, message-in-back, good-refusal}
+use Rattle.events.proofs.RoundTrip.{event-back, event-good-is, event-as}
 use Rattle.message_text.proofs.Ids.{raw-good}
 use Rattle.settings.specs.Binary.{sentFormat, binaryRefusal, sentMessage}
 use Rattle.settings.specs.declared.Shared.{Shared}

@@ -5,7 +5,7 @@ use mathlib.Core.List.{List, [], _∷_, _++_}
 use lib.ListN.{length, take, drop}
 use lib.Seq.{slice}
 use Rattle.common.specs.Numbers.{numberOf}
-use Rattle.records.specs.Messages.{messageSize}
+use Rattle.messages.specs.Records.{messageSize}
 use Rattle.recorder.specs.Outcomes.{Lent, Outcome}
 use Rattle.recorder.specs.declared.Device.{Device}
 use Rattle.model.specs.Inbox.{Kept}

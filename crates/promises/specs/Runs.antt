@@ -6,8 +6,8 @@ use lib.Dec.{eqb}
 use Rattle.common.specs.Choice.{pick}
 use Rattle.common.specs.Slots.{ring}
 use Rattle.common.specs.declared.Ring.{Ring}
-use Rattle.records.specs.Messages.{messageSize}
-use Rattle.records.specs.Events.{eventSize}
+use Rattle.messages.specs.Records.{messageSize}
+use Rattle.events.specs.Records.{eventSize}
 use Rattle.channels.specs.Receiving.{slotAt}
 use Rattle.settings.specs.declared.Settings.{Settings}
 use Rattle.recorder.specs.Outcomes.{Lent, lends, Outcome}

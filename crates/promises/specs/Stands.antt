@@ -10,10 +10,10 @@ use Rattle.common.specs.Numbers.{Bytes}
 use Rattle.common.specs.Rings.{goodRing}
 use Rattle.common.specs.declared.Ring.{Ring}
 use Rattle.ids.specs.EventMask.{isMask}
-use Rattle.records.specs.Messages.{messageSize, goodMessage, messageBytes, noMessage}
-use Rattle.records.specs.Events.{eventSize, codeOf, goodEvent, eventBytes}
-use Rattle.records.specs.declared.Message.{Message}
-use Rattle.records.specs.declared.Event.{Event}
+use Rattle.messages.specs.Records.{messageSize, goodMessage, messageBytes, noMessage}
+use Rattle.events.specs.Records.{eventSize, codeOf, goodEvent, eventBytes}
+use Rattle.messages.specs.declared.Message.{Message}
+use Rattle.events.specs.declared.Event.{Event}
 use Rattle.settings.specs.Ranges.{goodShared}
 use Rattle.settings.specs.TxMode.{goodTx}
 use Rattle.channels.specs.Receiving.{queueLimit}

@@ -7,7 +7,7 @@ use mathlib.Core.List.{List}
 use Prim.Native.Nat.{ℕ}
 use lib.ListN.{length}
 use Rattle.common.proofs.Bools.{and-left}
-use Rattle.records.specs.declared.Message.{Message}
+use Rattle.messages.specs.declared.Message.{Message}
 use Rattle.channels.specs.Receiving.{goodReceive, usable}
 use Rattle.channels.specs.declared.Receive.{Receive}
 use Rattle.channels.specs.Sending.{sendFits}

@@ -4,8 +4,8 @@ use mathlib.Core.Bool.{true, false}
 use mathlib.Core.List.{List, []}
 use Prim.Native.Nat.{ℕ}
 use native.Mathlib.Omega.{arith}
-use Rattle.records.specs.Messages.{noMessage}
-use Rattle.records.specs.Raised.{eventOf}
+use Rattle.messages.specs.Records.{noMessage}
+use Rattle.events.specs.Raised.{eventOf}
 use Rattle.settings.specs.Ranges.{goodShared}
 use Rattle.settings.specs.declared.Shared.{Shared}
 use Rattle.inbox.specs.Calls.{RaiseMet, unfiltered}

@@ -7,10 +7,10 @@ use lib.Dec.{leb}
 use borrow.Author.Tests.{leb-true}
 use Rattle.common.proofs.Bools.{and-left, and-right}
 use Rattle.ids.specs.Filters.{modeTakes}
-use Rattle.records.specs.Events.{codeOf}
-use Rattle.records.specs.declared.Message.{Message}
-use Rattle.records.specs.Raised.{eventOf}
-use Rattle.records.proofs.OfCode.{event-code}
+use Rattle.events.specs.Records.{codeOf}
+use Rattle.messages.specs.declared.Message.{Message}
+use Rattle.events.specs.Raised.{eventOf}
+use Rattle.events.proofs.OfCode.{event-code}
 use Rattle.settings.specs.Ranges.{goodShared}
 use Rattle.channels.specs.Receiving.{goodReceive, queueFits, usable}
 use Rattle.channels.specs.Sending.{goodSend}

@@ -7,8 +7,8 @@ use native.Mathlib.Omega.{arith}
 use lib.Dec.{eqb}
 use Rattle.common.specs.Choice.{pick}
 use Rattle.common.proofs.Choices.{pick-is}
-use Rattle.records.specs.Raised.{eventOf}
-use Rattle.records.specs.declared.Message.{Message}
+use Rattle.events.specs.Raised.{eventOf}
+use Rattle.messages.specs.declared.Message.{Message}
 use Rattle.settings.specs.declared.Shared.{Shared}
 use Rattle.inbox.specs.Calls.{raises}
 use Rattle.channels.specs.declared.Receive.{Receive}

@@ -4,7 +4,7 @@ use mathlib.Core.Path.{_≡_}
 use mathlib.Core.Bool.{Bool, _&&_}
 use mathlib.Core.List.{List, []}
 use lib.ListN.{length}
-use Rattle.records.specs.declared.Event.{Event}
+use Rattle.events.specs.declared.Event.{Event}
 use Rattle.digits.specs.declared.Printed.{Printed}
 use Rattle.channels.specs.Receiving.{queueFits}
 use Rattle.inbox.specs.Calls.{Raising, meets}

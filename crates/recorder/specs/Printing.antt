@@ -4,9 +4,9 @@ use mathlib.Core.List.{List, [], _++_}
 use lib.ListN.{length, drop}
 use lib.Dec.{eqb}
 use Rattle.common.specs.Choice.{pick}
-use Rattle.records.specs.Messages.{messageIn}
-use Rattle.records.specs.Events.{eventIn}
-use Rattle.records.specs.declared.Message.{Message}
+use Rattle.messages.specs.Records.{messageIn}
+use Rattle.events.specs.Records.{eventIn}
+use Rattle.messages.specs.declared.Message.{Message}
 use Rattle.message_text.specs.Printing.{messageLine, messageRefusal, messageRecordRefusal}
 use Rattle.event_text.specs.Lines.{eventLine, eventRecordRefusal}
 use Rattle.recorder.specs.State.{good}

@@ -5,9 +5,9 @@ use mathlib.Core.List.{List}
 use lib.ListN.{replicate}
 use lib.Dec.{eqb}
 use Rattle.common.specs.Choice.{pick}
-use Rattle.records.specs.Messages.{messageSize}
-use Rattle.records.specs.Raised.{eventOf}
-use Rattle.records.specs.declared.Message.{Message}
+use Rattle.messages.specs.Records.{messageSize}
+use Rattle.events.specs.Raised.{eventOf}
+use Rattle.messages.specs.declared.Message.{Message}
 use Rattle.settings.specs.declared.Shared.{Shared}
 use Rattle.channels.specs.Receiving.{goodReceive, usable}
 use Rattle.inbox.specs.Calls.{Raising, raises, unfiltered, meets}

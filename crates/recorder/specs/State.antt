@@ -1,7 +1,7 @@
 -- A device's settings and state (01, "Settings", and refusals 1 and 2).
 use mathlib.Core.Bool.{Bool, false, _&&_}
 use Rattle.common.specs.Rings.{emptyRing}
-use Rattle.records.specs.Messages.{noMessage}
+use Rattle.messages.specs.Records.{noMessage}
 use Rattle.settings.specs.Ranges.{goodShared}
 use Rattle.settings.specs.declared.Shared.{Shared}
 use Rattle.settings.specs.declared.Settings.{Settings}

@@ -19,7 +19,7 @@ fn change(d: Device, s: Shared, tick: u32, queue: &mut [u8]) -> Answer
         return state::answer(1, 0, d);
     }
     let receive = d.receive;
-    let met = inbox::raising::past_filter(receive, 5, tick, records::messages::no_message(), queue);
+    let met = inbox::raising::past_filter(receive, 5, tick, messages::records::no_message(), queue);
     let after = state::with_receive(
         state::with_shared(d, s),
         inbox::raising::after_raise(receive, met),

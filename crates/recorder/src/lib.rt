@@ -9,8 +9,8 @@ mod state;
 
 use channels::Receive;
 use channels::Send;
-use records::events::EVENT;
-use records::messages::MESSAGE;
+use events::records::EVENT;
+use messages::records::MESSAGE;
 use settings::Shared;
 
 // The whole state of a device, by value.

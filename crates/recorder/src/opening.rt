@@ -43,7 +43,7 @@ fn fresh_send(s: Settings) -> Send
         first: 0,
         count: 0,
     };
-    let none = records::messages::no_message();
+    let none = messages::records::no_message();
     Send {
         tx: s.tx,
         ring: ring,

@@ -2,7 +2,7 @@
 use crate::Device;
 use crate::state;
 use digits::Printed;
-use records::Message;
+use messages::Message;
 ghost use mathlib.Core.Path.{_≡_};
 ghost use mathlib.Core.List.{[]};
 ghost use Rattle.digits.specs.Written.{notPrinted};

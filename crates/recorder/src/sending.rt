@@ -2,7 +2,7 @@
 use crate::Answer;
 use crate::Device;
 use crate::state;
-use records::Message;
+use messages::Message;
 ghost use mathlib.Core.Path.{_≡_};
 ghost use mathlib.Core.List.{[]};
 ghost use Rattle.recorder.specs.Outcomes.{lends, SendMet};

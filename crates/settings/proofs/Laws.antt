@@ -11,8 +11,8 @@ use Rattle.ids.specs.Ids.{isFormat, rawOf}
 use Rattle.ids.specs.Filters.{modeTakes}
 use Rattle.ids.specs.declared.Id.{Id}
 use Rattle.ids.specs.declared.Id.the-variants.{Good, Bad}
-use Rattle.records.specs.Messages.{stored}
-use Rattle.records.specs.declared.Message.{Message}
+use Rattle.messages.specs.Records.{stored}
+use Rattle.messages.specs.declared.Message.{Message}
 use Rattle.settings.specs.TxMode.{goodTx}
 use Rattle.settings.specs.Ranges.{goodShared}
 use Rattle.settings.specs.Binary.{sentFormat, binaryRefusal, sentMessage, notBrought, brought}

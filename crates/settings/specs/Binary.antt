@@ -5,8 +5,8 @@ use lib.Dec.{leb, eqb}
 use Rattle.common.specs.Choice.{pick}
 use Rattle.ids.specs.Ids.{isFormat, rawOf, isBad, idNumber}
 use Rattle.ids.specs.Filters.{modeTakes}
-use Rattle.records.specs.Messages.{stored, noMessage}
-use Rattle.records.specs.declared.Message.{Message}
+use Rattle.messages.specs.Records.{stored, noMessage}
+use Rattle.messages.specs.declared.Message.{Message}
 use Rattle.settings.specs.Ranges.{formatOf}
 use Rattle.settings.specs.declared.Shared.{Shared}
 use Rattle.settings.specs.declared.Brought.{Brought}

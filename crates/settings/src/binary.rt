@@ -4,14 +4,14 @@ use crate::Shared;
 use crate::ranges;
 use ids::Header;
 use ids::Id;
-use records::Message;
+use messages::Message;
 ghost use mathlib.Core.Path.{_≡_};
 ghost use Rattle.settings.specs.Binary.{notBrought, brought};
 
 fn refuse(number: u32) -> Brought
     ensures { λ r. ⌜ r ≡ notBrought number ⌝ }
 {
-    let none = records::messages::no_message();
+    let none = messages::records::no_message();
     Brought {
         number: number,
         message: none,
@@ -50,7 +50,7 @@ pub fn bring(s: Shared, m: Message) -> Brought
         header: h,
         bytes: b,
     };
-    let kept = records::messages::stored(whole);
+    let kept = messages::records::stored(whole);
     Brought {
         number: 0,
         message: kept,

@@ -3,7 +3,7 @@ pub mod binary;
 pub mod ranges;
 pub mod txmode;
 
-use records::Message;
+use messages::Message;
 
 // What all channels of a device share.
 pub struct Shared {

@@ -1,9 +1,9 @@
 // The event text and its room.
 use crate::queueing;
 use crate::setting;
+use events::records::EVENT;
 use recorder::Device;
 use recorder::receiving;
-use records::events::EVENT;
 
 // The number of a read into a room.
 fn write_room(said: &[u8], number: u32) {

@@ -1,10 +1,10 @@
 // Identifiers under an Align, the filter, and the identifiers that it lets through.
 use crate::setting;
 use digits::Printed;
+use events::records::EVENT;
 use recorder::Through;
 use recorder::printing;
 use recorder::receiving;
-use records::events::EVENT;
 
 // Prints raw identifier 731.
 fn print(align: u32, out: &mut [u8]) -> Printed {

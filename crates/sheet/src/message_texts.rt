@@ -1,11 +1,11 @@
 // The message texts of the sheet.
 use crate::setting;
+use events::records::EVENT;
+use messages::records::MESSAGE;
 use recorder::Answer;
 use recorder::Device;
 use recorder::register;
 use recorder::sending;
-use records::events::EVENT;
-use records::messages::MESSAGE;
 ghost use Prim.Native.Nat.{_≤_};
 ghost use lib.ListN.{length};
 

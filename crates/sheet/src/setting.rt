@@ -1,7 +1,7 @@
 // The device of a case, and its frames.
 use ids::Header;
+use messages::Message;
 use recorder::Answer;
-use records::Message;
 use settings::Settings;
 
 // Mode 0 and MaskActive 0, every event let through, room for one message.

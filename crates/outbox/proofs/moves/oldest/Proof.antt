@@ -3,7 +3,7 @@ use denote.Ref.{now}
 use lib.ListN.{length}
 use native.Mathlib.Omega.{arith}
 use Rattle.common.proofs.RingFacts.{slot-inside}
-use Rattle.records.specs.Messages.{messageSize}
+use Rattle.messages.specs.Records.{messageSize}
 use Rattle.channels.proofs.Laws.{send-ring}
 use Rattle.outbox.proofs.Laws.{fits-table, oldest-as}
 use borrow.Author.Needs.{needs}

@@ -4,7 +4,7 @@ use Prim.Native.Nat.{ℕ, _*_}
 use lib.ListN.{length}
 use native.Mathlib.Omega.{arith}
 use Rattle.common.proofs.RingFacts.{slot-inside, store-part}
-use Rattle.records.specs.Messages.{messageSize, messageBytes}
+use Rattle.messages.specs.Records.{messageSize, messageBytes}
 use Rattle.channels.proofs.Laws.{send-ring}
 use Rattle.outbox.proofs.Laws.{fits-table}
 use borrow.Author.Needs.{needs}

@@ -2,8 +2,8 @@ use mathlib.Core.Path.{refl, ap, _∙_}
 use mathlib.Core.List.{[]}
 use denote.Ref.{now}
 use Rattle.common.proofs.Bools.{said, denied}
-use Rattle.records.specs.Messages.{noMessage}
-use Rattle.records.specs.Raised.{eventOf}
+use Rattle.messages.specs.Records.{noMessage}
+use Rattle.events.specs.Raised.{eventOf}
 use Rattle.channels.specs.declared.Receive.{Receive}
 use Rattle.inbox.proofs.Laws.{next-past, room-for, built}
 use Rattle.recorder.specs.Outcomes.{lends}

@@ -1,0 +1,4 @@
+pub mod Laws
+pub mod RoundTrip
+pub mod Examples
+pub mod OfCode

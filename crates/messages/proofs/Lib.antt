@@ -1,0 +1,4 @@
+pub mod Data
+pub mod Laws
+pub mod RoundTrip
+pub mod Examples

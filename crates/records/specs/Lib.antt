@@ -1,3 +1,0 @@
-pub mod Messages
-pub mod Events
-pub mod Raised
