@@ -8,23 +8,23 @@ use Rattle.common.specs.Choice.{pick}
 use Rattle.messages.specs.declared.Message.{Message}
 use Rattle.settings.specs.Ranges.{goodShared}
 use Rattle.settings.specs.declared.Shared.{Shared}
-use Rattle.channels.specs.Receiving.{goodReceive, usable}
+use Rattle.queue.specs.Channel.{goodReceive, usable}
 use Rattle.inbox.specs.Refusals.{recordRefusal, filterRefusal, maskRefusal, throughRefusal}
 use Rattle.inbox.specs.Calls as Inbox
-use Rattle.channels.specs.Sending.{goodSend}
+use Rattle.buffer.specs.Channel.{goodSend}
 use Rattle.outbox.specs.Refusals.{doneRefusal, abortRefusal}
 use Rattle.outbox.specs.Calls as Outbox
 use Rattle.recorder.specs.State.{good}
 use Rattle.recorder.specs.Outcomes.{Lent, Outcome, refuses, queueReady, noted}
-use Rattle.recorder.specs.Receiving.{lifted, received, changed, filterSet, eventMaskSet}
-use Rattle.recorder.specs.Receiving.{raised, recordRead, textRead, lookSaid, through}
+use Rattle.recorder.specs.Receiving.{lifted, received, changed, filterSet, eventMaskSet, raised, recordRead, textRead}
+use Rattle.recorder.specs.Receiving.{lookSaid, through}
 use Rattle.recorder.specs.Sending.{carrying, sent, textSent, taken, finished, aborted}
 use Rattle.recorder.specs.Printing.{linePrinted}
 use Rattle.recorder.specs.declared.Device.{Device}
 use Rattle.model.specs.Inbox.{readRecord, readText, look, setFilter, setEventMask, identifiersThrough}
 use Rattle.model.specs.Outbox.{send, sendText, take, done, abort}
-use Rattle.model.specs.Box.{raise, setMode, setFormat, printMessageRecord, printEventRecord, printMessage}
-use Rattle.model.specs.Box.{Call, onDevice, onReceive, onSend, onAlign}
+use Rattle.model.specs.Box.{raise, setMode, setFormat, printMessageRecord, printEventRecord, printMessage, Call}
+use Rattle.model.specs.Box.{onDevice, onReceive, onSend, onAlign}
 use Rattle.promises.specs.Calls.{outcome}
 use Rattle.board.specs.Board.{Borrows, borrows, borrowed, lentTo, whole}
 

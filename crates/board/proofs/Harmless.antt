@@ -12,7 +12,8 @@ use Rattle.recorder.specs.Receiving.{opened}
 use Rattle.model.specs.Box.{Call}
 use Rattle.promises.proofs.Harmless as Calls
 use Rattle.kept.specs.State.{stateSize, deviceIn, isState}
-use Rattle.board.specs.Board.{borrowed, lentTo, handsBack, on, called, settingsSize, settingsIn, openedOn}
+use Rattle.settings.specs.Given.{settingsSize, settingsIn}
+use Rattle.board.specs.Board.{borrowed, lentTo, handsBack, on, called, openedOn}
 use Rattle.board.specs.Board.{Unchanged}
 use Rattle.board.proofs.Ways.{hands-back}
 

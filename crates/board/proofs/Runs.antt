@@ -15,11 +15,11 @@ use Rattle.common.proofs.Choices.{by-test, pick-is, passed}
 use Rattle.events.specs.Records.{eventSize}
 use Rattle.settings.specs.Ranges.{goodShared}
 use Rattle.settings.specs.declared.Settings.{Settings}
-use Rattle.channels.specs.Receiving.{goodReceive, queueFits}
+use Rattle.queue.specs.Channel.{goodReceive, queueFits}
 use Rattle.inbox.specs.Refusals.{possible, ready, lookRefusal}
 use Rattle.inbox.specs.Calls.{looked, lookedAt}
 use Rattle.inbox.proofs.Laws.{look-free, ready-fits}
-use Rattle.channels.specs.Sending.{goodSend}
+use Rattle.buffer.specs.Channel.{goodSend}
 use Rattle.recorder.specs.State.{good}
 use Rattle.recorder.specs.Outcomes.{Lent, lends, Outcome}
 use Rattle.recorder.specs.Receiving.{opened, lookSaid}
@@ -42,7 +42,8 @@ use Rattle.promises.proofs.Answers.{next-stands, answers}
 use Rattle.promises.proofs.Carried.{sum-of-bytes, larger-queue}
 use Rattle.kept.specs.State.{stateSize, receiveAt, stateBytes, word, deviceIn, isState}
 use Rattle.kept.specs.Handing.{left}
-use Rattle.board.specs.Board.{borrowed, on, called, settingsSize, settingsIn, openedOn}
+use Rattle.settings.specs.Given.{settingsSize, settingsIn}
+use Rattle.board.specs.Board.{borrowed, on, called, openedOn}
 use Rattle.board.specs.Runs.{BoardRun, asRun, calledNext, next, run, started, Answered}
 use Rattle.board.proofs.Blind.{blind}
 use Rattle.board.proofs.Words.{stands-back}

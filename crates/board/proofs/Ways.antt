@@ -15,13 +15,15 @@ use Rattle.events.specs.Records.{eventSize}
 use Rattle.messages.specs.declared.Message.{Message}
 use Rattle.digits.specs.declared.Printed.{Printed}
 use Rattle.settings.specs.declared.Settings.{Settings}
-use Rattle.channels.specs.Receiving.{usable, queueFits}
+use Rattle.queue.specs.Channel.{usable, queueFits}
 use Rattle.inbox.specs.Refusals.{ready, lookRefusal, throughRefusal}
-use Rattle.inbox.specs.Calls.{Raising, RaiseMet, afterRaise, lookedAt}
+use Rattle.queue.specs.Recording.{Raising, RaiseMet, afterRaise}
+use Rattle.inbox.specs.Calls.{lookedAt}
 use Rattle.inbox.specs.Calls as Inbox
-use Rattle.channels.specs.declared.Receive.{Receive}
-use Rattle.inbox.proofs.Laws.{look-free, ready-fits, next-by, built}
-use Rattle.channels.specs.Sending.{goodSend, sendFits}
+use Rattle.queue.specs.declared.Receive.{Receive}
+use Rattle.inbox.proofs.Laws.{look-free, ready-fits, next-by}
+use Rattle.queue.proofs.Laws.{built}
+use Rattle.buffer.specs.Channel.{goodSend, sendFits}
 use Rattle.outbox.specs.Refusals.{possible, takeRefusal, abortRefusal}
 use Rattle.outbox.specs.Calls as Outbox
 use Rattle.recorder.specs.State.{good, fresh, noDevice, withReceive}
@@ -37,8 +39,8 @@ use Rattle.recorder.specs.declared.Taken.{Taken}
 use Rattle.recorder.specs.declared.Through.{Through}
 use Rattle.model.specs.Inbox.{readRecord, readText, look, identifiersThrough}
 use Rattle.model.specs.Outbox.{take, abort}
-use Rattle.model.specs.Box.{PrintCall, printMessageRecord, printEventRecord, printMessage}
-use Rattle.model.specs.Box.{Call, onDevice, onReceive, onSend, onAlign, raise}
+use Rattle.model.specs.Box.{PrintCall, printMessageRecord, printEventRecord, printMessage, Call, onDevice, onReceive}
+use Rattle.model.specs.Box.{onSend, onAlign, raise}
 use Rattle.promises.specs.Calls.{printOutcome, outcome}
 use Rattle.kept.specs.State.{stateSize, stateBytes, deviceIn, isState, isPossible, counted}
 use Rattle.kept.specs.Handing.{left, Left}
@@ -46,7 +48,8 @@ use Rattle.kept.proofs.RoundTrip.{state-back}
 use Rattle.kept.proofs.Judged.{possible-state, possible-good, impossible-good, good-send, raise-impossible}
 use Rattle.kept.proofs.Moves.{Counts, raise-moves, counted-left}
 use Rattle.board.specs.Board.{Borrows, borrowed, lentTo, handsBack, whole, on, called, Called, CalledWith}
-use Rattle.board.specs.Board.{settingsSize, settingsIn, openedOn}
+use Rattle.settings.specs.Given.{settingsSize, settingsIn}
+use Rattle.board.specs.Board.{openedOn}
 
 -- a choice has what both its arms have
 both : {A : Type 0} (P : A → Type 0) (b : Bool) (x y : A) → P x → P y → P (pick b x y)
@@ -371,11 +374,11 @@ open-says given l =
 -- the ways out of opening
 module _ (given s : List ℕ) (l : Lent) where
   -- a setting is missing, or too many are given
-  pub open-miscounted : (length given ≡ settingsSize → ⊥) → Called (openedOn given s l) s 1 s l
+  pub open-miscounted : eqb (length given) settingsSize ≡ false → Called (openedOn given s l) s 1 s l
   unfolding openedOn isRefusal
-  open-miscounted h = rw (ne-eqb _ settingsSize h) (record { number = refl; state-bytes = refl; lent-bytes = refl })
+  open-miscounted h = rw h (record { number = refl; state-bytes = refl; lent-bytes = refl })
 
-  module _ (h : length given ≡ settingsSize) {g : Settings} (e : g ≡ settingsIn given) {r : Answer}
+  module _ (h : eqb (length given) settingsSize ≡ true) {g : Settings} (e : g ≡ settingsIn given) {r : Answer}
       (a : r ≡ answerOf (opened g l)) where
     number-is : r .number ≡ opened (settingsIn given) l .number
     number-is = ap (λ (x : Answer). x .number) (rw e at a)
@@ -385,7 +388,7 @@ module _ (given s : List ℕ) (l : Lent) where
     open-refused z =
         let y : opened (settingsIn given) l .number ≡ 0 → ⊥ = λ x. z (number-is ∙ x) in
         let says = open-says (settingsIn given) l in
-        rw (eq-eqb _ settingsSize h, ne-eqb _ 0 y)
+        rw (h, ne-eqb _ 0 y)
         (record { number = number-is; state-bytes = rw (says .0 y); lent-bytes = says .1 })
 
     module _ (z : r .number ≡ 0) where
@@ -395,7 +398,7 @@ module _ (given s : List ℕ) (l : Lent) where
       pub open-unkept : (length s ≡ stateSize → ⊥) → Called (openedOn given s l) s 2 s l
       unfolding openedOn isRefusal
       open-unkept k =
-          rw (eq-eqb _ settingsSize h, eq-eqb _ 0 y, ne-eqb _ stateSize k)
+          rw (h, eq-eqb _ 0 y, ne-eqb _ stateSize k)
           (record { number = refl; state-bytes = refl; lent-bytes = refl })
 
       pub open-kept : length s ≡ stateSize → {t : List ℕ} → t ≡ stateBytes (r .device) → Called (openedOn given s l) s 0 t l
@@ -403,5 +406,5 @@ module _ (given s : List ℕ) (l : Lent) where
       open-kept k w =
           let device = ap (λ (x : Answer). x .device) (rw e at a) in
           let lent = open-says (settingsIn given) l .1 in
-          rw (eq-eqb _ settingsSize h, eq-eqb _ 0 y, eq-eqb _ stateSize k)
+          rw (h, eq-eqb _ 0 y, eq-eqb _ stateSize k)
           (record { number = sym y; state-bytes = w ∙ rw (y, device); lent-bytes = lent })

@@ -3,10 +3,10 @@ use Prim.Native.Nat.{ℕ}
 use mathlib.Core.Path.{_≡_}
 use mathlib.Core.Bool.{Bool, true, false}
 use mathlib.Core.List.{List, []}
-use lib.ListN.{length, getD}
+use lib.ListN.{length}
 use lib.Dec.{eqb}
 use Rattle.common.specs.Choice.{pick}
-use Rattle.settings.specs.declared.Settings.{Settings}
+use Rattle.settings.specs.Given.{settingsSize, settingsIn}
 use Rattle.recorder.specs.State.{noDevice}
 use Rattle.recorder.specs.Outcomes.{Lent, Outcome, lends, ends, refuses}
 use Rattle.recorder.specs.Receiving.{opened}
@@ -73,26 +73,6 @@ on call s l = pick (isState s) (call (deviceIn s) l) (refuses 2 noDevice l)
 unfoldable pub called : Call → List ℕ → Lent → Outcome
 called x s l = whole (borrowed x) l (on (outcome x) s (lentTo (borrowed x) l))
 
--- how many numbers the settings are
-abbrev pub settingsSize : ℕ
-settingsSize = 10
-
--- the settings that those numbers stand for, in their order
-abbrev pub settingsIn : List ℕ → Settings
-settingsIn given = record {
-  mode = getD given 0 0;
-  format = getD given 1 0;
-  align = getD given 2 0;
-  active = getD given 3 0;
-  code = getD given 4 0;
-  mask = getD given 5 0;
-  events = getD given 6 0;
-  queue = getD given 7 0;
-  tx = getD given 8 0;
-  buffer = getD given 9 0;
-}
-
--- opening: 1 where a setting is missing or too many are given, else the recorder's outcome, and 2 where it would open
 -- a device that the state's bytes cannot keep
 unfoldable pub openedOn : List ℕ → List ℕ → Lent → Outcome
 openedOn given s l =

@@ -36,7 +36,7 @@ pub extern "C" fn sv_raise(
     let m = kept::handing::message(id, format, rtr, dlc, bytes);
     let receive = d.receive;
     let number = inbox::raising::raise_possible(d.shared, receive, code, tick, m, queue);
-    let next = inbox::raising::after_raise(receive, number);
+    let next = queue::recording::after_raise(receive, number);
     kept::handing::leave_counted(state, number, next.ring.count, next.pending)
 }
 
@@ -123,7 +123,7 @@ pub extern "C" fn sv_look(state: &[u8], queue: &[u8], p: u32, offset: &mut usize
         return number;
     }
     let ring = d.receive.ring;
-    *offset = channels::receiving::SLOT * (rings::slot_of(ring, p) as usize);
+    *offset = queue::channel::SLOT * (rings::slot_of(ring, p) as usize);
     0
 }
 

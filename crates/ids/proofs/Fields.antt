@@ -13,6 +13,7 @@ use lib.Count.{ones, onesIn}
 use borrow.Author.Tests.{leb-true, ne-eqb}
 use Rattle.common.specs.Choice.{pick}
 use Rattle.common.proofs.Bools.{and-left, and-right}
+use Rattle.common.proofs.Choices.{by-test}
 use Rattle.ids.specs.Ids.{bit, idBits, idLow}
 use Rattle.ids.specs.Filters.{isFilter, filterLow, free, fieldMeets, freeBits}
 use Rattle.ids.specs.declared.Filter.{Filter}
@@ -29,6 +30,16 @@ pick-same true n = refl
 pick-same false n = refl
 
 -- ---- where the fields lie
+
+-- the filter's columns are the identifier's, but for Align 0, which has those of Align 3
+pub low-at-0 : (format : ℕ) → idLow format 3 ≡ filterLow format 0
+unfolding idLow filterLow
+low-at-0 format = by-test (eqb format 1) (λ h. rw h) (λ h. rw h)
+
+pub low-past-0 : (format align : ℕ) → (align ≡ 0 → ⊥) → idLow format align ≡ filterLow format align
+unfolding idLow filterLow
+low-past-0 format zero h = absurd (h refl)
+low-past-0 format (suc align) h = by-test (eqb format 1) (λ t. rw t) (λ t. rw t)
 
 -- a field of w bits from bit low up lies within 32 bits
 abbrev pub InWord : ℕ → ℕ → Type 0

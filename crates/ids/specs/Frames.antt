@@ -6,12 +6,15 @@ use Rattle.common.specs.Choice.{pick}
 use Rattle.ids.specs.Ids.{isFormat, idBits, idLow}
 use Rattle.ids.specs.declared.Header.{Header}
 
--- 0 for a good header; else the first of 13 (format not 1 or 2), 8 (bad raw identifier), 9 (rtr above 1), 10 (dlc above 15)
+-- 9 (rtr above 1), 10 (dlc above 15), or 0
+abbrev pub rtrDlcRefusal : ℕ → ℕ → ℕ
+rtrDlcRefusal rtr dlc = pick (leb rtr 1) (pick (leb dlc 15) 0 10) 9
+
+-- 0 for a good header; else the first of 13 (format not 1 or 2), 8 (bad raw identifier), 9, 10
 unfoldable pub headerRefusal : Header → ℕ
 headerRefusal h =
     pick (isFormat (h .format))
-    (pick (ltb (h .id) (2 ^ idBits (h .format))) (pick (leb (h .rtr) 1) (pick (leb (h .dlc) 15) 0 10) 9) 8)
-    13
+    (pick (ltb (h .id) (2 ^ idBits (h .format))) (rtrDlcRefusal (h .rtr) (h .dlc)) 8) 13
 
 -- a good header
 abbrev pub goodHeader : Header → Bool

@@ -42,29 +42,14 @@ fn id_bits(format: u32) -> u32
     29
 }
 
-// The lowest filter bit that an identifier meets.
+// The lowest filter bit that an identifier meets: at Align 0 the same as at Align 3.
 fn filter_low(format: u32, align: u32) -> u32
     ensures { λ r. ⌜ r ≡ filterLow format align ⌝ }
 {
-    if format == 1 {
-        if align == 0 {
-            return 21;
-        }
-        if align == 2 {
-            return 18;
-        }
-        if align == 3 {
-            return 21;
-        }
-        return 0;
-    }
     if align == 0 {
-        return 3;
+        return align::id_low(format, 3);
     }
-    if align == 3 {
-        return 3;
-    }
-    0
+    align::id_low(format, align)
 }
 
 // The bits of the mask that equal v, as ones.

@@ -25,7 +25,7 @@ pub fn id_limit(format: u32) -> u32
 }
 
 // The lowest bit of the identifier's field.
-fn id_low(format: u32, align: u32) -> u32
+pub fn id_low(format: u32, align: u32) -> u32
     ensures { λ r. ⌜ r ≡ idLow format align ⌝ }
 {
     if format == 1 {

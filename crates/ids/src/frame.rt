@@ -2,7 +2,20 @@
 use crate::Header;
 use crate::align;
 ghost use mathlib.Core.Path.{_≡_};
-ghost use Rattle.ids.specs.Frames.{headerRefusal, carried};
+ghost use Rattle.ids.specs.Frames.{rtrDlcRefusal, headerRefusal, carried};
+
+// The first of 9 and 10, or 0.
+pub fn rtr_dlc_refusal(rtr: u32, dlc: u32) -> u32
+    ensures { λ r. ⌜ r ≡ rtrDlcRefusal rtr dlc ⌝ }
+{
+    if 1 < rtr {
+        return 9;
+    }
+    if 15 < dlc {
+        return 10;
+    }
+    0
+}
 
 // 0 for a good header, or the first of 13, 8, 9, 10.
 pub fn header_refusal(h: Header) -> u32
@@ -14,13 +27,7 @@ pub fn header_refusal(h: Header) -> u32
     if align::id_limit(h.format) <= h.id {
         return 8;
     }
-    if 1 < h.rtr {
-        return 9;
-    }
-    if 15 < h.dlc {
-        return 10;
-    }
-    0
+    rtr_dlc_refusal(h.rtr, h.dlc)
 }
 
 // How many data bytes a frame carries.

@@ -5,8 +5,8 @@ pub mod raising;
 pub mod reading;
 mod refusals;
 
-use channels::Receive;
 use events::records::EVENT;
+use queue::Receive;
 
 // The answer of read_record: the paper's number, the event's bytes, and the channel after the call.
 pub struct ReadOut {

@@ -18,10 +18,10 @@ use Rattle.messages.specs.Records.{goodMessage}
 use Rattle.messages.specs.declared.Message.{Message}
 use Rattle.settings.specs.Ranges.{goodShared}
 use Rattle.settings.specs.TxMode.{goodTx}
-use Rattle.channels.specs.Receiving.{queueLimit, goodReceive}
+use Rattle.queue.specs.Channel.{queueLimit, goodReceive}
 use Rattle.inbox.specs.Refusals.{possible, ready, raiseRefusal}
 use Rattle.inbox.specs.Calls as Inbox
-use Rattle.channels.specs.Sending.{sendLimit, goodSend}
+use Rattle.buffer.specs.Channel.{sendLimit, goodSend}
 use Rattle.recorder.specs.State.{good}
 use Rattle.recorder.specs.Outcomes.{Lent, refuses}
 use Rattle.recorder.specs.Receiving.{raised}

@@ -16,12 +16,11 @@ use Rattle.common.proofs.Bools.{and-left}
 use Rattle.common.proofs.Lists.{copy-fills}
 use Rattle.digits.proofs.Written.{sets-append}
 use Rattle.messages.specs.declared.Message.{Message}
-use Rattle.channels.specs.declared.Send.{Send}
+use Rattle.buffer.specs.declared.Send.{Send}
 use Rattle.recorder.specs.declared.Device.{Device}
 use Rattle.kept.specs.State.{sharedNumbers, receiveNumbers, sendNumbers, registerNumbers, registerBytes}
-use Rattle.kept.specs.State.{stateNumbers}
-use Rattle.kept.specs.State.{stateSize, receiveAt, sendAt, wordBytes, stateBytes, word, deviceIn, isState}
-use Rattle.kept.specs.State.{counted, advanced, transferred}
+use Rattle.kept.specs.State.{stateNumbers, stateSize, receiveAt, sendAt, wordBytes, stateBytes, word, deviceIn}
+use Rattle.kept.specs.State.{isState, counted, advanced, transferred}
 use Rattle.kept.specs.Handing.{left}
 use Rattle.kept.proofs.RoundTrip.{state-back}
 

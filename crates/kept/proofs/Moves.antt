@@ -11,16 +11,17 @@ use Rattle.events.specs.declared.Event.{Event}
 use Rattle.messages.specs.declared.Message.{Message}
 use Rattle.events.specs.Raised.{filtered, eventOf}
 use Rattle.settings.specs.declared.Shared.{Shared}
-use Rattle.channels.specs.Receiving.{usable, moved}
+use Rattle.queue.specs.Channel.{usable, moved}
 use Rattle.inbox.specs.Refusals.{raiseRefusal, recordRefusal, textRefusal}
-use Rattle.inbox.specs.Calls.{Raising, meets, queued, unfiltered}
+use Rattle.queue.specs.Recording.{Raising, queued, unfiltered}
+use Rattle.inbox.specs.Calls.{meets}
 use Rattle.inbox.specs.Calls as Inbox
-use Rattle.channels.specs.declared.Receive.{Receive}
-use Rattle.channels.specs.Sending.{goodSend}
+use Rattle.queue.specs.declared.Receive.{Receive}
+use Rattle.buffer.specs.Channel.{goodSend}
 use Rattle.outbox.specs.Refusals.{takeRefusal, doneRefusal, abortRefusal}
 use Rattle.outbox.specs.Calls as Outbox
 use Rattle.outbox.specs.declared.Raised.{Raised}
-use Rattle.channels.specs.declared.Send.{Send}
+use Rattle.buffer.specs.declared.Send.{Send}
 use Rattle.recorder.specs.Outcomes.{Lent, Outcome, answerOf, recordOf, takenOf}
 use Rattle.recorder.specs.Receiving.{raised, recordRead, textRead}
 use Rattle.recorder.specs.Sending.{carriedOver, carrying, taken, finished, aborted}

@@ -9,9 +9,9 @@ use Rattle.common.specs.Choice.{pick}
 use Rattle.common.specs.Numbers.{bytesOf, numberOf}
 use Rattle.messages.specs.declared.Message.{Message}
 use Rattle.settings.specs.declared.Shared.{Shared}
-use Rattle.channels.specs.Receiving.{moved}
-use Rattle.channels.specs.declared.Receive.{Receive}
-use Rattle.channels.specs.declared.Send.{Send}
+use Rattle.queue.specs.Channel.{moved}
+use Rattle.queue.specs.declared.Receive.{Receive}
+use Rattle.buffer.specs.declared.Send.{Send}
 use Rattle.recorder.specs.State.{good, withReceive, withSend}
 use Rattle.recorder.specs.declared.Device.{Device}
 

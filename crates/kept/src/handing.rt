@@ -2,7 +2,7 @@
 use crate::parts;
 use crate::state;
 use crate::words;
-use channels::Send;
+use buffer::Send;
 use events::records::EVENT;
 use ids::Header;
 use messages::Message;

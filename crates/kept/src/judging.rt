@@ -14,8 +14,8 @@ ghost use Rattle.common.specs.Rings.{goodRing};
 ghost use Rattle.messages.specs.Records.{goodMessage};
 ghost use Rattle.settings.specs.Ranges.{goodShared};
 ghost use Rattle.settings.specs.TxMode.{goodTx};
-ghost use Rattle.channels.specs.Receiving.{goodReceive};
-ghost use Rattle.channels.specs.Sending.{sendLimit};
+ghost use Rattle.queue.specs.Channel.{goodReceive};
+ghost use Rattle.buffer.specs.Channel.{sendLimit};
 ghost use Rattle.kept.specs.State.{word, sharedIn, receiveIn, registerIn, isPossible};
 
 // The numbers of a ring of at most `limit` slots.
@@ -61,7 +61,7 @@ fn is_receive(s: &[u8], at: usize) -> bool
     if !ids::event_mask::is_mask(words::word(s, at + 12)) {
         return false;
     }
-    is_ring(s, at + 16, channels::receiving::LIMIT)
+    is_ring(s, at + 16, queue::channel::LIMIT)
 }
 
 // The register is empty, or holds a good message.
@@ -93,7 +93,7 @@ fn is_buffer(s: &[u8], at: usize) -> bool
     if !settings::txmode::is_tx(words::word(s, at)) {
         return false;
     }
-    is_ring(s, at + 4, channels::sending::LIMIT)
+    is_ring(s, at + 4, buffer::channel::LIMIT)
 }
 
 // The bytes are a state whose device is possible.

@@ -1,11 +1,11 @@
 // The parts of a state, each read and written from `at` on.
 use crate::words;
-use channels::Receive;
-use channels::Send;
+use buffer::Send;
 use common::Ring;
 use ids::Filter;
 use ids::Header;
 use messages::Message;
+use queue::Receive;
 use settings::Shared;
 ghost use mathlib.Core.Path.{_≡_};
 ghost use mathlib.Core.List.{_++_};

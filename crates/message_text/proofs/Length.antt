@@ -10,19 +10,19 @@ use Rattle.ids.specs.Frames.{carried, shownId}
 use Rattle.ids.specs.declared.Header.{Header}
 use Rattle.ids.proofs.Frames.{carried-le}
 use Rattle.messages.specs.declared.Message.{Message}
-use Rattle.message_text.specs.Printing.{messageText, messageLine}
+use Rattle.message_text.specs.Printing.{messageRoom, messageText, messageLine}
 
 taken-le : (n : ℕ) (b : List ℕ) → length (take n b) ≤ n
 taken-le n b = rw (length-take n b) (omega arith)
 
 -- no message's text is longer than 37 bytes, whatever is shown as its identifier
-pub message-text-le : (id : ℕ) (h : Header) (b : List ℕ) → length (messageText id h b) ≤ 37
+pub message-text-le : (id : ℕ) (h : Header) (b : List ℕ) → length (messageText id h b) ≤ messageRoom
 unfolding messageText
 message-text-le id h b =
     simp (length-append, hex-length, fields-length) (omega (arith, carried-le h, taken-le (carried h) b))
 
 -- no message's line is longer than 37 bytes, be its header good or not
-pub message-line-le : (align : ℕ) (m : Message) → length (messageLine align m) ≤ 37
+pub message-line-le : (align : ℕ) (m : Message) → length (messageLine align m) ≤ messageRoom
 unfolding messageLine
 message-line-le align m = message-text-le (shownId align (m .header)) (m .header) (m .bytes)
 
@@ -32,6 +32,6 @@ longest =
     record { header = record { id = 0x1FFFFFFF; format = 2; rtr = 0; dlc = 15 }; bytes = 1 ∷ 2 ∷ 3 ∷ 4 ∷ 5 ∷ 6 ∷ 7 ∷ 8 ∷ [] }
 
 -- a line of 37 bytes
-pub message-line-reached : length (messageLine 0 longest) ≡ 37
+pub message-line-reached : length (messageLine 0 longest) ≡ messageRoom
 unfolding messageLine messageText hex fields carried
 message-line-reached = refl

@@ -22,7 +22,7 @@ use Rattle.messages.specs.Records.{goodMessage, messageIn, isMessage, judgeMess
 use Rattle.messages.specs.declared.Message.{Message}
 use Rattle.messages.specs.declared.JudgedMessage.{JudgedMessage}
 use Rattle.messages.proofs.RoundTrip.{good-is, message-as, judged-good}
-use Rattle.message_text.specs.Printing.{messageText, messageLine, messageRefusal, messageRecordRefusal}
+use Rattle.message_text.specs.Printing.{messageRoom, messageText, messageLine, messageRefusal, messageRecordRefusal}
 use Rattle.digits.proofs.Answers.{line-printed, passed}
 use Rattle.message_text.proofs.Length.{message-line-le}
 
@@ -40,14 +40,14 @@ module _ (align : ℕ) (m : Message) {a : Id} (l : align ≤ 3) (g : headerRefus
   id-not-bad q = let p = id-good in let z : _≡_ {A = ℕ} 0 1 = cc in omega arith
 
   -- its line is printed
-  pub message-printed : {id p : ℕ} {old new : List ℕ} → a ≡ Good id → 37 ≤ length old
+  pub message-printed : {id p : ℕ} {old new : List ℕ} → a ≡ Good id → messageRoom ≤ length old
       → Put old 0 (messageText id (m .header) (m .bytes)) new p
       → Prints (messageRefusal align m (length old)) (messageLine align m) old (record { number = 0; length = p }) new
   unfolding messageRefusal messageLine
   message-printed {id} {old = old} q h s =
       let i : id ≡ shownId align (m .header) = let p = id-good in cc in
       line-printed (rw i at s) (omega (arith, message-line-le align m))
-      (passed 37 align (headerRefusal (m .header)) (length old) h l ∙ g)
+      (passed messageRoom align (headerRefusal (m .header)) (length old) h l ∙ g)
 
 -- ---- a message record
 

@@ -22,9 +22,9 @@ use Rattle.settings.specs.Ranges.{goodShared}
 use Rattle.settings.specs.declared.Shared.{Shared}
 use Rattle.settings.specs.declared.Settings.{Settings}
 use Rattle.model.specs.Said.{Said}
-use Rattle.model.specs.Inbox.{Kept, Inbox, recording, losing, Met, meets, arrival, reading}
-use Rattle.model.specs.Inbox.{ReceiveCall, readRecord, readText, look, setFilter, setEventMask}
-use Rattle.model.specs.Inbox.{identifiersThrough, Received, takesOldest, receives}
+use Rattle.model.specs.Inbox.{Kept, Inbox, recording, losing, Met, meets, arrival, reading, ReceiveCall}
+use Rattle.model.specs.Inbox.{readRecord, readText, look, setFilter, setEventMask, identifiersThrough, Received}
+use Rattle.model.specs.Inbox.{takesOldest, receives}
 use Rattle.model.specs.Outbox.{Outbox, posts}
 use Rattle.model.specs.Box.{Box, box, fresh, Step, DeviceCall, raise, setMode, setFormat, noted, changes, does}
 use Rattle.model.specs.Box.{Call, onDevice, onReceive, onSend, onAlign, step, Asked, run}

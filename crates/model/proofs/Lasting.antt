@@ -16,12 +16,12 @@ use Rattle.event_text.specs.Lines.{eventRoom}
 use Rattle.settings.specs.Ranges.{goodShared}
 use Rattle.settings.specs.declared.Shared.{Shared}
 use Rattle.model.specs.Said.{Said}
-use Rattle.model.specs.Inbox.{Kept, Inbox, recording, losing, Met, meets, arrival, reading, withFilter, withMask}
-use Rattle.model.specs.Inbox.{ReceiveCall, readRecord, readText, look, setFilter, setEventMask}
+use Rattle.model.specs.Inbox.{Kept, Inbox, recording, losing, Met, meets, arrival, reading, withFilter}
+use Rattle.model.specs.Inbox.{withMask, ReceiveCall, readRecord, readText, look, setFilter, setEventMask}
 use Rattle.model.specs.Inbox.{identifiersThrough, Received, takesOldest, receives}
 use Rattle.model.specs.Outbox.{posts}
-use Rattle.model.specs.Box.{Box, Step, DeviceCall, raise, setMode, setFormat, noted, changes, does}
-use Rattle.model.specs.Box.{Call, onDevice, onReceive, onSend, onAlign, step, Asked, run}
+use Rattle.model.specs.Box.{Box, Step, DeviceCall, raise, setMode, setFormat, noted, changes, does, Call}
+use Rattle.model.specs.Box.{onDevice, onReceive, onSend, onAlign, step, Asked, run}
 
 -- what holds of each way that an event can meet a channel holds of what it meets
 pub arrival-is : (R : Met → Type 0) (s : Shared) (i : ℕ) (e : Event) (b : Inbox) → R (meets 101 b) → R (meets 102 b)

@@ -18,10 +18,10 @@ use Rattle.settings.specs.Ranges.{goodShared, formatOf}
 use Rattle.settings.specs.Binary.{binaryRefusal, sentMessage}
 use Rattle.settings.specs.declared.Shared.{Shared}
 use Rattle.model.specs.Said.{Said, says, saysZeros, counts}
-use Rattle.model.specs.Outbox.{purged, Outbox, holding, SendCall, send, sendText, take, done, abort}
-use Rattle.model.specs.Outbox.{Posted, posted, put, textSays, putText, takes, takesInto, finishes, aborts, posts}
-use Rattle.model.specs.Box.{Box, Step, DeviceCall, raise, setMode, setFormat, does}
-use Rattle.model.specs.Box.{Call, onDevice, onReceive, onSend, onAlign, step, Asked, run}
+use Rattle.model.specs.Outbox.{purged, Outbox, holding, SendCall, send, sendText, take, done, abort, Posted}
+use Rattle.model.specs.Outbox.{posted, put, textSays, putText, takes, takesInto, finishes, aborts, posts}
+use Rattle.model.specs.Box.{Box, Step, DeviceCall, raise, setMode, setFormat, does, Call, onDevice, onReceive}
+use Rattle.model.specs.Box.{onSend, onAlign, step, Asked, run}
 
 -- Q holds of each way that a call on channel o can go
 pub record Ways (o : Outbox) (Q : Posted → Type 0) : Type 0 where

@@ -32,16 +32,16 @@ use Rattle.settings.specs.declared.Shared.{Shared}
 use Rattle.model.specs.Said.{Said, says}
 use Rattle.model.specs.Inbox.{Kept, ReceiveCall, readRecord, readText, look, setFilter, setEventMask}
 use Rattle.model.specs.Inbox.{identifiersThrough, Received, takesOldest, looksAt, receives}
-use Rattle.model.specs.Outbox.{SendCall, send, sendText, take, done, abort, Posted, posted, put, putText}
-use Rattle.model.specs.Outbox.{takes, takesInto, finishes, posts}
+use Rattle.model.specs.Outbox.{SendCall, send, sendText, take, done, abort, Posted, posted, put, putText, takes}
+use Rattle.model.specs.Outbox.{takesInto, finishes, posts}
 use Rattle.model.specs.Box.{Box, box, Step, steps, DeviceCall, raise, setMode, setFormat, noted, changes, does}
-use Rattle.model.specs.Box.{PrintCall, printMessageRecord, printEventRecord, printMessage, printed, shows}
-use Rattle.model.specs.Box.{Call, onDevice, onReceive, onSend, onAlign, step}
+use Rattle.model.specs.Box.{PrintCall, printMessageRecord, printEventRecord, printMessage, printed, shows, Call}
+use Rattle.model.specs.Box.{onDevice, onReceive, onSend, onAlign, step}
 use Rattle.model.specs.Listed.{usual, beside, Untouched}
 use Rattle.model.proofs.Choices.{either}
 use Rattle.model.proofs.Lasting.{arrival-is}
-use Rattle.model.proofs.Numbers.{header-number, frame-number, binary-number, Other, room-align}
-use Rattle.model.proofs.Numbers.{textNumbers, each-is}
+use Rattle.model.proofs.Numbers.{header-number, frame-number, binary-number, Other, room-align, textNumbers}
+use Rattle.model.proofs.Numbers.{each-is}
 
 -- the number of a step is in the list, and a refusal leaves the box and stands beside zeros and its value
 pub record Sound (ns : List ℕ) (value : ℕ → ℕ) (b : Box) (r : Step) : Type 0 where

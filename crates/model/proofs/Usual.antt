@@ -9,8 +9,8 @@ use Rattle.common.proofs.Choices.{pick-is}
 use Rattle.events.specs.Raised.{frameRefusal}
 use Rattle.settings.specs.Ranges.{goodShared}
 use Rattle.settings.specs.declared.Shared.{Shared}
-use Rattle.model.specs.Box.{Box, Step, DeviceCall, raise, setMode, setFormat, changes, does}
-use Rattle.model.specs.Box.{Call, onDevice, onReceive, onSend, onAlign, step, Asked, run}
+use Rattle.model.specs.Box.{Box, Step, DeviceCall, raise, setMode, setFormat, changes, does, Call, onDevice}
+use Rattle.model.specs.Box.{onReceive, onSend, onAlign, step, Asked, run}
 use Rattle.model.specs.Listed.{usual}
 use Rattle.model.proofs.Sound.{step-sound}
 

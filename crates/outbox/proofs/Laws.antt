@@ -1,4 +1,4 @@
--- What a usable send channel says of its parts, and what a call's two ways show.
+-- What a ready send channel says of its parts, and what a call's two ways show.
 use mathlib.Core.Path.{_≡_, refl, sym, ap, subst, _∙_}
 use mathlib.Core.Bool.{Bool, true, false, not, _&&_, _||_}
 use mathlib.Core.List.{List, []}
@@ -22,14 +22,14 @@ use Rattle.settings.specs.Binary.{binaryRefusal, brought}
 use Rattle.settings.specs.declared.Shared.{Shared}
 use Rattle.settings.specs.declared.Brought.{Brought}
 use Rattle.settings.proofs.Laws.{brought-number, brought-message}
-use Rattle.channels.specs.Sending.{sendLimit, goodSend, sendFits, oldest}
-use Rattle.outbox.specs.Refusals.{possible, usable, putRefusal, waitRefusal, takeRefusal}
-use Rattle.outbox.specs.Refusals.{notFound, found, doneRefusal, abortRefusal}
-use Rattle.outbox.specs.Calls.{Outcome, raisedIf, refused, settled, sentOf, WriteMet}
-use Rattle.outbox.specs.Calls.{puts, sent, reads, usedBeside, readSent, textSent}
-use Rattle.outbox.specs.Calls.{takes, taken, finishes, finished, aborts, aborted}
+use Rattle.buffer.specs.Channel.{sendLimit, goodSend, sendFits, oldest}
+use Rattle.outbox.specs.Refusals.{possible, ready, putRefusal, waitRefusal, takeRefusal, notFound, found}
+use Rattle.outbox.specs.Refusals.{doneRefusal, abortRefusal}
+use Rattle.outbox.specs.Calls.{Outcome, raisedIf, refused, settled, sentOf, WriteMet, puts, sent, reads}
+use Rattle.outbox.specs.Calls.{usedBeside, readSent, textSent, takes, taken, finishes, finished, aborts}
+use Rattle.outbox.specs.Calls.{aborted}
 use Rattle.outbox.specs.declared.Raised.{Raised}
-use Rattle.channels.specs.declared.Send.{Send}
+use Rattle.buffer.specs.declared.Send.{Send}
 use Rattle.outbox.specs.declared.Sent.{Sent}
 use Rattle.outbox.specs.declared.Found.{Found}
 use Rattle.outbox.specs.declared.Read.{Read}
@@ -40,9 +40,9 @@ use Rattle.outbox.specs.declared.Read.{Read}
 pub fits-table : (s : Send) (n : ℕ) → sendFits s n ≡ true → messageSize * s .ring .capacity ≤ n
 fits-table s n h = leb-true (messageSize * s .ring .capacity) n h
 
--- a usable channel is good, and its table long enough
-pub judged : (h : Shared) (s : Send) (n : ℕ) → usable h s n ≡ true → (goodSend s ≡ true) × (sendFits s n ≡ true)
-unfolding usable possible
+-- a ready channel is good, and its table long enough
+pub judged : (h : Shared) (s : Send) (n : ℕ) → ready h s n ≡ true → (goodSend s ≡ true) × (sendFits s n ≡ true)
+unfolding ready possible
 judged h s n u =
     let able = and-left (possible h s) (sendFits s n) u in
     (and-right (goodShared h) (goodSend s) able, and-right (possible h s) (sendFits s n) u)
@@ -56,10 +56,10 @@ own-zero own n e =
 
 -- a message that is not refused has no refusal of its own, and may be put in
 module _ (h : Shared) (s : Send) (n own r : ℕ) (e : r ≡ putRefusal h s n own) (z : r ≡ 0) where
-  ways : (usable h s n ≡ true) × (own ≡ 0) × (ltb (s .ring .count) (s .ring .capacity) ≡ true)
+  ways : (ready h s n ≡ true) × (own ≡ 0) × (ltb (s .ring .count) (s .ring .capacity) ≡ true)
   unfolding putRefusal
   ways =
-      let u = passed (usable h s n) _ 2 refl (sym e ∙ z) in
+      let u = passed (ready h s n) _ 2 refl (sym e ∙ z) in
       let o = own-zero own _ (u .1) in
       (u .0, o .0, passed (ltb (s .ring .count) (s .ring .capacity)) 0 5 refl (o .1) .0)
 
@@ -74,7 +74,7 @@ pub wait-free : (h : Shared) (s : Send) (n r : ℕ) → r ≡ waitRefusal h s n 
     → (goodSend s ≡ true) × (sendFits s n ≡ true) × (s .ring .count ≡ 0 → ⊥)
 unfolding waitRefusal
 wait-free h s n r e z =
-    let u = passed (usable h s n) _ 2 refl (sym e ∙ z) in
+    let u = passed (ready h s n) _ 2 refl (sym e ∙ z) in
     let f = stopped (s .held) _ 5 refl (u .1) in
     let c = stopped (eqb (s .ring .count) 0) 0 4 refl (f .1) in
     let g = judged h s n (u .0) in

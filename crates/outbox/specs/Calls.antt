@@ -18,9 +18,9 @@ use Rattle.settings.specs.TxMode.{raisesAtTake, raisesAtDone}
 use Rattle.settings.specs.Ranges.{formatOf}
 use Rattle.settings.specs.Binary.{binaryRefusal, sentMessage}
 use Rattle.settings.specs.declared.Shared.{Shared}
-use Rattle.channels.specs.Sending.{oldest, withRing, afterTake, afterDone, afterAbort}
+use Rattle.buffer.specs.Channel.{oldest, withRing, afterTake, afterDone, afterAbort}
 use Rattle.outbox.specs.Refusals.{putRefusal, takeRefusal, doneRefusal, abortRefusal}
-use Rattle.channels.specs.declared.Send.{Send}
+use Rattle.buffer.specs.declared.Send.{Send}
 use Rattle.outbox.specs.declared.Raised.{Raised}
 use Rattle.outbox.specs.declared.Sent.{Sent}
 use Rattle.outbox.specs.declared.Taken.{Taken as TakenOut}

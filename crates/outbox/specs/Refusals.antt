@@ -8,8 +8,8 @@ use Rattle.common.specs.Choice.{pick}
 use Rattle.messages.specs.Records.{messageIn, isMessage, noMessage}
 use Rattle.settings.specs.Ranges.{goodShared}
 use Rattle.settings.specs.declared.Shared.{Shared}
-use Rattle.channels.specs.Sending.{goodSend, sendFits, oldest}
-use Rattle.channels.specs.declared.Send.{Send}
+use Rattle.buffer.specs.Channel.{goodSend, sendFits, oldest}
+use Rattle.buffer.specs.declared.Send.{Send}
 use Rattle.outbox.specs.declared.Found.{Found}
 
 -- settings and channel are possible: else 2
@@ -17,17 +17,17 @@ unfoldable pub possible : Shared → Send → Bool
 possible h s = goodShared h && goodSend s
 
 -- and the lent table, of n bytes, is long enough: else 2
-unfoldable pub usable : Shared → Send → ℕ → Bool
-usable h s n = possible h s && sendFits s n
+unfoldable pub ready : Shared → Send → ℕ → Bool
+ready h s n = possible h s && sendFits s n
 
 -- send and send_text: 2, the message's own refusal, 5 where the buffer is full
 unfoldable pub putRefusal : Shared → Send → ℕ → ℕ → ℕ
 putRefusal h s n own =
-    pick (usable h s n) (pick (eqb own 0) (pick (ltb (s .ring .count) (s .ring .capacity)) 0 5) own) 2
+    pick (ready h s n) (pick (eqb own 0) (pick (ltb (s .ring .count) (s .ring .capacity)) 0 5) own) 2
 
 -- take, before the oldest slot is looked at: 2, 5 where the register is occupied, 4 where nothing waits
 unfoldable pub waitRefusal : Shared → Send → ℕ → ℕ
-waitRefusal h s n = pick (usable h s n) (pick (s .held) 5 (pick (eqb (s .ring .count) 0) 4 0)) 2
+waitRefusal h s n = pick (ready h s n) (pick (s .held) 5 (pick (eqb (s .ring .count) 0) 4 0)) 2
 
 -- take: 2, 5, 4, 14 for a damaged slot
 unfoldable pub takeRefusal : Shared → Send → List ℕ → ℕ

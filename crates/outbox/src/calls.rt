@@ -5,8 +5,8 @@ use crate::Sent;
 use crate::Taken;
 use crate::moves;
 use crate::refusals;
-use channels::Send;
-use channels::sending;
+use buffer::Send;
+use buffer::channel;
 use messages::Message;
 use messages::records::MESSAGE;
 use settings::Shared;
@@ -14,8 +14,8 @@ ghost use mathlib.Core.Path.{_≡_};
 ghost use mathlib.Core.List.{[]};
 ghost use lib.ListN.{replicate};
 ghost use Rattle.messages.specs.Records.{messageSize};
-ghost use Rattle.outbox.specs.Calls.{sentOf, takenOf, emptiedOf, WriteMet, refused, reads, usedBeside};
-ghost use Rattle.outbox.specs.Calls.{sent, textSent, taken, finished, aborted};
+ghost use Rattle.outbox.specs.Calls.{sentOf, takenOf, emptiedOf, WriteMet, refused, reads, usedBeside, sent};
+ghost use Rattle.outbox.specs.Calls.{textSent, taken, finished, aborted};
 
 // The answers of a refused call: the channel stays, nothing is raised.
 fn not_sent(number: u32, value: usize, s: Send) -> Sent
@@ -126,7 +126,7 @@ pub fn take(h: Shared, s: Send, tick: u32, table: &[u8]) -> Taken
     }
     let m = f.message;
     let b = moves::bytes_of(m);
-    let next = sending::after_take(s, m);
+    let next = channel::after_take(s, m);
     let raised = moves::raised_if(settings::txmode::raises_at_take(s.tx), 2, tick, m);
     Taken {
         number: 0,
@@ -145,7 +145,7 @@ pub fn done(h: Shared, s: Send, tick: u32) -> Emptied
         return not_emptied(n, s);
     }
     let m = s.message;
-    let next = sending::after_done(s);
+    let next = channel::after_done(s);
     let raised = moves::raised_if(settings::txmode::raises_at_done(s.tx), 2, tick, m);
     Emptied {
         number: 0,
@@ -165,7 +165,7 @@ pub fn abort(h: Shared, s: Send, tick: u32) -> Emptied
     }
     let ring = s.ring;
     let m = s.message;
-    let next = sending::after_abort(s);
+    let next = channel::after_abort(s);
     let raised = moves::raised_if(s.held, 3, tick, m);
     Emptied {
         number: 0,

@@ -4,7 +4,7 @@ pub mod calls;
 mod moves;
 mod refusals;
 
-use channels::Send;
+use buffer::Send;
 use messages::Message;
 use messages::records::MESSAGE;
 

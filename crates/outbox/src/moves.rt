@@ -1,8 +1,8 @@
 // What a call that is not refused does to a channel that was judged, and the event that it raises.
 use crate::Raised;
 use crate::Sent;
-use channels::Send;
-use channels::sending;
+use buffer::Send;
+use buffer::channel;
 use common::rings;
 use messages::JudgedMessage;
 use messages::Message;
@@ -12,7 +12,7 @@ ghost use mathlib.Core.Bool.{true};
 ghost use Prim.Native.Nat.{_<_};
 ghost use lib.ListN.{length};
 ghost use Rattle.messages.specs.Records.{messageBytes, judgeMessage};
-ghost use Rattle.channels.specs.Sending.{goodSend, sendFits, oldest};
+ghost use Rattle.buffer.specs.Channel.{goodSend, sendFits, oldest};
 ghost use Rattle.outbox.specs.Calls.{raisedIf, puts, WriteMet};
 
 // The oldest slot, judged.
@@ -21,8 +21,8 @@ pub fn oldest(s: Send, table: &[u8]) -> JudgedMessage
     ensures { λ j. ⌜ j ≡ judgeMessage (oldest s (now (table .entry))) ⌝ }
 {
     let ring = s.ring;
-    let at = sending::SLOT * (rings::slot_of(ring, 0) as usize);
-    messages::records::judge_message(&table[at..at + sending::SLOT])
+    let at = channel::SLOT * (rings::slot_of(ring, 0) as usize);
+    messages::records::judge_message(&table[at..at + channel::SLOT])
 }
 
 // A message's bytes, by value.
@@ -60,9 +60,9 @@ pub fn put(s: Send, m: Message, value: usize, table: &mut [u8]) -> Sent
     ensures { λ r. ⌜ WriteMet (puts s m value (now (table .entry))) r (now (table .exit)) ⌝ }
 {
     let ring = s.ring;
-    let at = sending::SLOT * (rings::slot_of(ring, ring.count) as usize);
-    messages::records::write_message(&mut table[at..at + sending::SLOT], m);
-    let next = sending::with_ring(s, rings::with_one_more(ring));
+    let at = channel::SLOT * (rings::slot_of(ring, ring.count) as usize);
+    messages::records::write_message(&mut table[at..at + channel::SLOT], m);
+    let next = channel::with_ring(s, rings::with_one_more(ring));
     Sent {
         number: 0,
         value: value,

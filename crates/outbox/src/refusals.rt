@@ -1,12 +1,12 @@
 // The refusal of each call: 0, or the first that applies in the paper's order.
 use crate::Found;
 use crate::moves;
-use channels::Send;
-use channels::sending;
+use buffer::Send;
+use buffer::channel;
 use settings::Shared;
 ghost use mathlib.Core.Path.{_≡_};
-ghost use Rattle.outbox.specs.Refusals.{possible, usable, putRefusal, waitRefusal};
-ghost use Rattle.outbox.specs.Refusals.{notFound, found, doneRefusal, abortRefusal};
+ghost use Rattle.outbox.specs.Refusals.{possible, ready, putRefusal, waitRefusal, notFound, found};
+ghost use Rattle.outbox.specs.Refusals.{doneRefusal, abortRefusal};
 
 // Settings and channel are possible.
 fn is_possible(h: Shared, s: Send) -> bool
@@ -15,24 +15,24 @@ fn is_possible(h: Shared, s: Send) -> bool
     if !settings::ranges::is_shared(h) {
         return false;
     }
-    sending::is_send(s)
+    channel::is_send(s)
 }
 
 // They are, and the table, of n bytes, is long enough.
-fn is_usable(h: Shared, s: Send, n: usize) -> bool
-    ensures { λ ok. ⌜ ok ≡ usable h s n ⌝ }
+fn is_ready(h: Shared, s: Send, n: usize) -> bool
+    ensures { λ ok. ⌜ ok ≡ ready h s n ⌝ }
 {
     if !is_possible(h, s) {
         return false;
     }
-    sending::fits(s, n)
+    channel::fits(s, n)
 }
 
 // send and send_text, whose message has its own refusal or 0: 2, its own, 5.
 pub fn put_refusal(h: Shared, s: Send, n: usize, own: u32) -> u32
     ensures { λ r. ⌜ r ≡ putRefusal h s n own ⌝ }
 {
-    if !is_usable(h, s, n) {
+    if !is_ready(h, s, n) {
         return 2;
     }
     if own != 0 {
@@ -49,7 +49,7 @@ pub fn put_refusal(h: Shared, s: Send, n: usize, own: u32) -> u32
 fn wait_refusal(h: Shared, s: Send, n: usize) -> u32
     ensures { λ r. ⌜ r ≡ waitRefusal h s n ⌝ }
 {
-    if !is_usable(h, s, n) {
+    if !is_ready(h, s, n) {
         return 2;
     }
     if s.held {

@@ -18,13 +18,13 @@ use Rattle.messages.specs.declared.Message.{Message}
 use Rattle.events.specs.declared.Event.{Event}
 use Rattle.events.proofs.RoundTrip.{event-bytes-length}
 use Rattle.settings.specs.declared.Shared.{Shared}
-use Rattle.channels.specs.Receiving.{queueLimit, goodReceive, usable}
+use Rattle.queue.specs.Channel.{queueLimit, goodReceive, usable}
 use Rattle.inbox.specs.Refusals.{possible, ready}
-use Rattle.inbox.specs.Calls.{Raising, queued, unfiltered}
+use Rattle.queue.specs.Recording.{Raising, queued, unfiltered}
 use Rattle.inbox.specs.Calls as Queue
-use Rattle.channels.specs.declared.Receive.{Receive}
-use Rattle.channels.specs.Sending.{goodSend}
-use Rattle.channels.specs.declared.Send.{Send}
+use Rattle.queue.specs.declared.Receive.{Receive}
+use Rattle.buffer.specs.Channel.{goodSend}
+use Rattle.buffer.specs.declared.Send.{Send}
 use Rattle.recorder.specs.State.{good}
 use Rattle.recorder.specs.Outcomes.{lends, Outcome, ends, met, noted}
 use Rattle.recorder.specs.declared.Device.{Device}

@@ -17,17 +17,17 @@ use Rattle.event_text.specs.Lines.{eventRoom, eventLine}
 use Rattle.settings.specs.Ranges.{goodShared}
 use Rattle.settings.specs.declared.Settings.{Settings}
 use Rattle.settings.specs.declared.Shared.{Shared}
-use Rattle.channels.specs.Receiving.{queueLimit}
+use Rattle.queue.specs.Channel.{queueLimit}
 use Rattle.recorder.specs.Outcomes.{Lent, lends, Outcome}
 use Rattle.recorder.specs.Receiving.{opened}
 use Rattle.recorder.specs.declared.Device.{Device}
 use Rattle.model.specs.Said.{Said, says, saysZeros, hands, prints}
-use Rattle.model.specs.Inbox.{Kept, Inbox, Met, arrival, ReceiveCall, readRecord}
-use Rattle.model.specs.Inbox.{readText, look, setFilter, setEventMask, identifiersThrough}
-use Rattle.model.specs.Inbox.{withFilter, withMask, Received, received, takesOldest, receives}
+use Rattle.model.specs.Inbox.{Kept, Inbox, Met, arrival, ReceiveCall, readRecord, readText, look, setFilter}
+use Rattle.model.specs.Inbox.{setEventMask, identifiersThrough, withFilter, withMask, Received, received, takesOldest}
+use Rattle.model.specs.Inbox.{receives}
 use Rattle.model.specs.Outbox.{Outbox, posts}
-use Rattle.model.specs.Box.{Box, box, Step, DeviceCall, raise, setMode, setFormat, noted, changes}
-use Rattle.model.specs.Box.{does, Call, onDevice, onReceive, onSend, onAlign, step, fresh}
+use Rattle.model.specs.Box.{Box, box, Step, DeviceCall, raise, setMode, setFormat, noted, changes, does, Call}
+use Rattle.model.specs.Box.{onDevice, onReceive, onSend, onAlign, step, fresh}
 use Rattle.model.specs.Box as Model
 use Rattle.promises.specs.Typed.{Typed, Made, asked, TypedSettings}
 use Rattle.promises.specs.Calls.{outcome}

@@ -14,10 +14,10 @@ use Rattle.events.specs.Raised.{eventOf, frameRefusal}
 use Rattle.messages.specs.declared.Message.{Message}
 use Rattle.settings.specs.Ranges.{goodShared}
 use Rattle.settings.specs.declared.Shared.{Shared}
-use Rattle.channels.specs.Receiving.{queueFits}
+use Rattle.queue.specs.Channel.{queueFits}
 use Rattle.inbox.specs.Refusals.{ready, raiseRefusal}
 use Rattle.inbox.specs.Calls as Queue
-use Rattle.channels.specs.Sending.{goodSend}
+use Rattle.buffer.specs.Channel.{goodSend}
 use Rattle.recorder.specs.State.{good, withShared}
 use Rattle.recorder.specs.Outcomes.{Lent, lends, ends}
 use Rattle.recorder.specs.Receiving.{raised, changed}
@@ -26,15 +26,15 @@ use Rattle.recorder.specs.declared.Device.{Device}
 use Rattle.model.specs.Said.{says}
 use Rattle.model.specs.Inbox.{Inbox}
 use Rattle.model.specs.Outbox.{Outbox}
-use Rattle.model.specs.Box.{box, steps, DeviceCall, raise, setMode, setFormat, changes, does}
-use Rattle.model.specs.Box.{PrintCall, printMessageRecord, printEventRecord, printMessage, printed, shows}
-use Rattle.model.specs.Box.{Call, onDevice, onAlign, step}
+use Rattle.model.specs.Box.{box, steps, DeviceCall, raise, setMode, setFormat, changes, does, PrintCall}
+use Rattle.model.specs.Box.{printMessageRecord, printEventRecord, printMessage, printed, shows, Call, onDevice}
+use Rattle.model.specs.Box.{onAlign, step}
 use Rattle.promises.specs.Typed.{Word, TypedDevice}
 use Rattle.promises.specs.Calls.{outcome}
 use Rattle.promises.specs.Stands.{Stands}
 use Rattle.promises.proofs.Sound.{event-sound}
-use Rattle.promises.proofs.Agreeing.{arrival-is, device-possible, send-possible, inbox-ready}
-use Rattle.promises.proofs.Agreeing.{Agrees, agree-ways, notes, told}
+use Rattle.promises.proofs.Agreeing.{arrival-is, device-possible, send-possible, inbox-ready, Agrees}
+use Rattle.promises.proofs.Agreeing.{agree-ways, notes, told}
 
 module _ (d : Device) (q t out : List ℕ) (i : ℕ) (b : Inbox) (o : Outbox) (h : Stands d q t (box (d .shared) b o)) where
   abbrev l : Lent

@@ -19,30 +19,32 @@ use Rattle.messages.specs.declared.Message.{Message}
 use Rattle.events.specs.Records.{eventSize, codeOf, eventIn, isEvent}
 use Rattle.messages.specs.Records.{messageSize, isMessage, noMessage}
 use Rattle.events.specs.declared.Event.{Event}
-use Rattle.channels.specs.Receiving.{goodReceive, queueFits, slotAt, usable, afterRead, withFilter, withEvents}
-use Rattle.inbox.specs.Refusals.{ready, raiseRefusal, oldestRefusal, recordRefusal, textRefusal}
-use Rattle.inbox.specs.Refusals.{lookRefusal, filterRefusal, maskRefusal, throughRefusal}
+use Rattle.queue.specs.Channel.{goodReceive, queueFits, slotAt, usable, afterRead, withFilter, withEvents}
+use Rattle.queue.specs.Channel.{oldestRefusal}
+use Rattle.inbox.specs.Refusals.{ready, raiseRefusal, recordRefusal, textRefusal, lookRefusal, filterRefusal}
+use Rattle.inbox.specs.Refusals.{maskRefusal, throughRefusal}
 use Rattle.inbox.specs.Refusals as Judged
-use Rattle.inbox.specs.Calls.{Raising, raises, queued, unfiltered, meets, looked}
+use Rattle.queue.specs.Recording.{Raising, raises, queued, unfiltered}
+use Rattle.inbox.specs.Calls.{meets, looked}
 use Rattle.inbox.specs.Calls as Queue
 use Rattle.inbox.proofs.Laws.{raise-number}
 use Rattle.events.specs.Raised.{filtered, eventOf}
-use Rattle.channels.specs.declared.Receive.{Receive}
-use Rattle.channels.specs.Sending.{goodSend, sendFits, oldest}
+use Rattle.queue.specs.declared.Receive.{Receive}
+use Rattle.buffer.specs.Channel.{goodSend, sendFits, oldest}
 use Rattle.outbox.specs.Refusals.{possible, putRefusal, waitRefusal, takeRefusal, doneRefusal, abortRefusal}
 use Rattle.outbox.specs.Refusals as Refusals
 use Rattle.outbox.specs.Calls as Wire
-use Rattle.message_text.specs.Printing.{messageRefusal, messageRecordRefusal}
+use Rattle.message_text.specs.Printing.{messageRoom, messageRefusal, messageRecordRefusal}
 use Rattle.message_text.specs.Numbers.{usedOf}
 use Rattle.message_text.proofs.Cases.{read-is}
-use Rattle.event_text.specs.Lines.{eventLine, eventRecordRefusal}
+use Rattle.event_text.specs.Lines.{eventRoom, eventLine, eventRecordRefusal}
 use Rattle.recorder.specs.State.{good, fresh, noDevice, withShared, withReceive}
 use Rattle.settings.specs.Ranges.{goodShared, formatOf}
 use Rattle.settings.specs.Binary.{binaryRefusal}
 use Rattle.recorder.specs.Outcomes.{Lent, Outcome, ends, refuses, queueReady, noted, withQueue}
 use Rattle.common.specs.Refusals.{isRefusal}
-use Rattle.recorder.specs.Receiving.{opened, changed, filterSet, eventMaskSet, raised}
-use Rattle.recorder.specs.Receiving.{recordRead, textRead, lookSaid, through}
+use Rattle.recorder.specs.Receiving.{opened, changed, filterSet, eventMaskSet, raised, recordRead, textRead, lookSaid}
+use Rattle.recorder.specs.Receiving.{through}
 use Rattle.recorder.specs.Receiving as Received
 use Rattle.recorder.specs.Sending.{lifted, carriedOver, carrying, sent, textSent, taken, finished, aborted}
 use Rattle.recorder.specs.Printing.{linePrinted, messageRecordPrinted, eventRecordPrinted, messagePrinted}
@@ -53,8 +55,8 @@ use Rattle.recorder.proofs.Ready.{align-in}
 use Rattle.recorder.proofs.ReceiveWays.{good-is, not-good}
 use Rattle.model.specs.Inbox.{readRecord, readText, look, setFilter, setEventMask, identifiersThrough}
 use Rattle.model.specs.Outbox.{send, sendText, take, done, abort}
-use Rattle.model.specs.Box.{raise, setMode, setFormat, printMessageRecord, printEventRecord, printMessage}
-use Rattle.model.specs.Box.{Call, onDevice, onReceive, onSend, onAlign}
+use Rattle.model.specs.Box.{raise, setMode, setFormat, printMessageRecord, printEventRecord, printMessage, Call}
+use Rattle.model.specs.Box.{onDevice, onReceive, onSend, onAlign}
 use Rattle.model.specs.Listed.{listedDevice, listedReceive, listedSend, listedPrint, listed, besideSend, beside}
 use Rattle.model.proofs.Numbers.{header-number, binary-number, Other, room-align, each, each-is}
 use Rattle.promises.specs.Calls.{receiveOutcome, outcome, Harmless, CallHarmless}
@@ -247,7 +249,7 @@ module _ (d : Device) (l : Lent) where
       → P (putRefusal (d .shared) (d .send) (length (l .send)) own)
   unfolding putRefusal
   put-number P own two o five zero =
-      both P (Refusals.usable (d .shared) (d .send) (length (l .send))) _ 2
+      both P (Refusals.ready (d .shared) (d .send) (length (l .send))) _ 2
       (both P (eqb own 0) _ own (both P (ltb (d .send .ring .count) (d .send .ring .capacity)) 0 5 zero five) o) two
 
   send-fine : (m : Message) → H (listedSend (send m)) d l (sent m d l)
@@ -270,7 +272,7 @@ module _ (d : Device) (l : Lent) where
       let N : ℕ → Type 0 = Other (2 ∷ 5 ∷ 4 ∷ 14 ∷ 0 ∷ []) in
       both N (eqb (waitRefusal (d .shared) (d .send) (length (l .send))) 0) _ _
       (both N (isMessage (oldest (d .send) (l .send))) 0 14 (λ e. refl) (λ e. refl))
-      (both N (Refusals.usable (d .shared) (d .send) (length (l .send))) _ 2
+      (both N (Refusals.ready (d .shared) (d .send) (length (l .send))) _ 2
       (both N (d .send .held) 5 _ (λ e. refl) (both N (eqb (d .send .ring .count) 0) 4 0 (λ e. refl) (λ e. refl)))
       (λ e. refl))
 
@@ -320,7 +322,7 @@ module _ (d : Device) (l : Lent) where
   message-record-fine s =
       let ns : List ℕ = 2 ∷ 3 ∷ 14 ∷ 0 ∷ [] in
       print-fine ns _ _ refl refl
-      (room-align ns (d .shared .align) (length (l .out)) 37 (pick (isMessage s) 0 14) refl
+      (room-align ns (d .shared .align) (length (l .out)) messageRoom (pick (isMessage s) 0 14) refl
       (both (Other ns) (isMessage s) 0 14 (λ e. refl) (λ e. refl)))
 
   event-record-fine : (s : List ℕ) → H (listedPrint (printEventRecord s)) d l (eventRecordPrinted s d l)
@@ -328,7 +330,7 @@ module _ (d : Device) (l : Lent) where
   event-record-fine s =
       let ns : List ℕ = 2 ∷ 3 ∷ 14 ∷ 0 ∷ [] in
       print-fine ns _ _ refl refl
-      (room-align ns (d .shared .align) (length (l .out)) 80 (pick (isEvent s) 0 14) refl
+      (room-align ns (d .shared .align) (length (l .out)) eventRoom (pick (isEvent s) 0 14) refl
       (both (Other ns) (isEvent s) 0 14 (λ e. refl) (λ e. refl)))
 
   message-fine : (m : Message) → H (listedPrint (printMessage m)) d l (messagePrinted m d l)
@@ -336,7 +338,7 @@ module _ (d : Device) (l : Lent) where
   message-fine m =
       let ns : List ℕ = 2 ∷ 3 ∷ 13 ∷ 8 ∷ 9 ∷ 10 ∷ 0 ∷ [] in
       print-fine ns _ _ refl refl
-      (room-align ns (d .shared .align) (length (l .out)) 37 (headerRefusal (m .header)) refl
+      (room-align ns (d .shared .align) (length (l .out)) messageRoom (headerRefusal (m .header)) refl
       (header-number (Other ns) (m .header) (λ e. refl) (λ e. refl) (λ e. refl) (λ e. refl) (λ e. refl)))
 
   -- a look that is refused hands back an empty part

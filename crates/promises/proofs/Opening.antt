@@ -13,8 +13,8 @@ use Rattle.ids.specs.EventMask.{isMask}
 use Rattle.settings.specs.Ranges.{goodShared}
 use Rattle.settings.specs.TxMode.{goodTx}
 use Rattle.settings.specs.declared.Settings.{Settings}
-use Rattle.channels.specs.Receiving.{queueLimit, goodReceive, queueFits}
-use Rattle.channels.specs.Sending.{sendLimit, goodSend, sendFits}
+use Rattle.queue.specs.Channel.{queueLimit, goodReceive, queueFits}
+use Rattle.buffer.specs.Channel.{sendLimit, goodSend, sendFits}
 use Rattle.recorder.specs.State.{good, fresh, noDevice}
 use Rattle.recorder.specs.Outcomes.{Lent, ends, refuses}
 use Rattle.recorder.specs.Receiving.{opened}

@@ -14,8 +14,8 @@ use Rattle.common.proofs.Numbers.{bytes-take, bytes-drop}
 use Rattle.common.proofs.RingFacts.{RingFacts, good-ring}
 use Rattle.messages.specs.Records.{messageSize, goodMessage, messageBytes, messageIn, isMessage, judgeMessage}
 use Rattle.messages.specs.declared.Message.{Message}
-use Rattle.messages.proofs.RoundTrip.{good-refusal, message-bytes-length, good-is, message-as}
-use Rattle.messages.proofs.RoundTrip.{judged-good, judged-length, bytes-of-message}
+use Rattle.messages.proofs.RoundTrip.{good-refusal, message-bytes-length, good-is, message-as, judged-good}
+use Rattle.messages.proofs.RoundTrip.{judged-length, bytes-of-message}
 use Rattle.message_text.specs.Reading.{readMessage}
 use Rattle.message_text.specs.Printing.{messageRoom, messageLine, messageRefusal, messageRecordRefusal}
 use Rattle.message_text.specs.declared.Answer.the-variants.{Taken}
@@ -23,9 +23,9 @@ use Rattle.message_text.proofs.RoundTrip.{round-trip}
 use Rattle.settings.specs.Ranges.{formatOf}
 use Rattle.settings.specs.TxMode.{goodTx}
 use Rattle.settings.specs.declared.Settings.{Settings}
-use Rattle.channels.specs.Receiving.{goodReceive}
-use Rattle.channels.specs.Sending.{sendLimit, goodSend, sendFits, withRing}
-use Rattle.outbox.specs.Refusals.{possible, usable, putRefusal}
+use Rattle.queue.specs.Channel.{goodReceive}
+use Rattle.buffer.specs.Channel.{sendLimit, goodSend, sendFits, withRing}
+use Rattle.outbox.specs.Refusals.{possible, ready, putRefusal}
 use Rattle.outbox.specs.Calls as Outbox
 use Rattle.recorder.specs.State.{good, withSend}
 use Rattle.recorder.specs.Outcomes.{Lent, ends, sendReady, withTable, withOut}
@@ -51,7 +51,7 @@ use Rattle.promises.proofs.Answers.{answers}
 module _ (m : Message) (d e : Device) (l n : Lent) (d-good : good d ≡ true) (room : messageRoom ≤ length (l .out))
     (sound : SoundMessage m)
     (own : m .header .format ≡ formatOf (d .shared) (d .shared .format)) (same : e .shared ≡ d .shared)
-    (ready : sendReady e n ≡ true)
+    (fit : sendReady e n ≡ true)
     (free : e .send .ring .count < e .send .ring .capacity) where
   abbrev line : List ℕ
   line = messageLine (d .shared .align) m
@@ -65,10 +65,10 @@ module _ (m : Message) (d e : Device) (l n : Lent) (d-good : good d ≡ true) (r
   align-le = align-in d d-good
 
   fits : messageSize * e .send .ring .capacity ≤ length (n .send)
-  fits = leb-true _ _ (and-right (good e) (sendFits (e .send) (length (n .send))) ready)
+  fits = leb-true _ _ (and-right (good e) (sendFits (e .send) (length (n .send))) fit)
 
   e-good : good e ≡ true
-  e-good = and-left (good e) (sendFits (e .send) (length (n .send))) ready
+  e-good = and-left (good e) (sendFits (e .send) (length (n .send))) fit
 
   e-parts : Parts e
   e-parts = parts e e-good
@@ -95,7 +95,7 @@ module _ (m : Message) (d e : Device) (l n : Lent) (d-good : good d ≡ true) (r
   sent-is : outcome (onSend (sendText line)) e n
       ≡ ends 0 (length line) [] (withSend e (withRing (e .send) (withOneMore (e .send .ring))))
       (withTable n (store messageSize (n .send) (slotOf (e .send .ring) (e .send .ring .count)) (messageBytes m)))
-  unfolding outcome textSent Outbox.textSent putRefusal usable possible
+  unfolding outcome textSent Outbox.textSent putRefusal ready possible
   sent-is = rw (e-receive, said, e-parts .shared, e-send, le-leb _ _ fits, lt-ltb _ _ free)
 
   back : (x : Call) → outcome x d l ≡ ends 0 (length line) [] d (withOut l (line ++ drop (length line) (l .out)))
@@ -166,6 +166,6 @@ stored-reads-back s l xs ty h =
     let stands = answers s l xs ty h .1 .stands in
     let possible = device-possible (r .device) (r .queue) (r .send) b stands in
     all-map SoundMessage _
-    (λ m sound out e n room own same ready free. record-reads-back m (r .device) e (lent r out) n possible room sound
-    own same ready free)
+    (λ m sound out e n room own same fit free. record-reads-back m (r .device) e (lent r out) n possible room sound
+    own same fit free)
     (b .outbox .sent) (stands .outbox .sound)

@@ -17,22 +17,21 @@ use Rattle.ids.specs.EventMask.{isMask}
 use Rattle.events.specs.Records.{eventSize, eventBytes, isEvent, eventIn}
 use Rattle.events.specs.declared.Event.{Event}
 use Rattle.event_text.specs.Lines.{eventRoom, eventLine}
-use Rattle.channels.specs.Receiving.{queueLimit, queueFits, slotAt, afterRead}
-use Rattle.inbox.specs.Refusals.{ready, oldestRefusal, recordRefusal, textRefusal}
-use Rattle.inbox.specs.Refusals.{lookRefusal, filterRefusal, maskRefusal, throughRefusal}
+use Rattle.queue.specs.Channel.{queueLimit, queueFits, slotAt, afterRead, oldestRefusal}
+use Rattle.inbox.specs.Refusals.{ready, recordRefusal, textRefusal, lookRefusal, filterRefusal, maskRefusal}
+use Rattle.inbox.specs.Refusals.{throughRefusal}
 use Rattle.inbox.specs.Refusals as Judged
 use Rattle.inbox.specs.Calls.{looked}
 use Rattle.inbox.specs.Calls as Queue
-use Rattle.channels.specs.declared.Receive.{Receive}
+use Rattle.queue.specs.declared.Receive.{Receive}
 use Rattle.recorder.specs.State.{good, withReceive}
 use Rattle.recorder.specs.Outcomes.{Lent, lends, ends}
-use Rattle.channels.specs.Sending.{goodSend}
+use Rattle.buffer.specs.Channel.{goodSend}
 use Rattle.recorder.specs.Receiving.{lifted, filterSet, eventMaskSet, recordRead, textRead, lookSaid, through}
 use Rattle.recorder.specs.declared.Device.{Device}
 use Rattle.model.specs.Said.{says, saysZeros, hands, prints}
-use Rattle.model.specs.Inbox.{Kept, Inbox, ReceiveCall, readRecord, readText}
-use Rattle.model.specs.Inbox.{look, setFilter, setEventMask, identifiersThrough}
-use Rattle.model.specs.Inbox.{Received, takesOldest, receives}
+use Rattle.model.specs.Inbox.{Kept, Inbox, ReceiveCall, readRecord, readText, look, setFilter, setEventMask}
+use Rattle.model.specs.Inbox.{identifiersThrough, Received, takesOldest, receives}
 use Rattle.model.specs.Inbox as Model
 use Rattle.model.specs.Outbox.{Outbox}
 use Rattle.model.specs.Box.{box, Step, steps, onReceive, step}

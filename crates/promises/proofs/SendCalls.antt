@@ -22,12 +22,12 @@ use Rattle.message_text.proofs.Taken.{taken-good}
 use Rattle.settings.specs.Ranges.{formatOf}
 use Rattle.settings.specs.TxMode.{raisesAtTake, raisesAtDone}
 use Rattle.settings.specs.Binary.{binaryRefusal, sentMessage}
-use Rattle.channels.specs.Receiving.{goodReceive}
-use Rattle.channels.specs.Receiving as Queue
-use Rattle.channels.specs.Sending.{sendLimit, oldest, afterTake, afterDone, afterAbort}
-use Rattle.outbox.specs.Refusals.{possible, usable, putRefusal, waitRefusal, takeRefusal, doneRefusal, abortRefusal}
+use Rattle.queue.specs.Channel.{goodReceive}
+use Rattle.queue.specs.Channel as Queue
+use Rattle.buffer.specs.Channel.{sendLimit, oldest, afterTake, afterDone, afterAbort}
+use Rattle.outbox.specs.Refusals.{possible, ready, putRefusal, waitRefusal, takeRefusal, doneRefusal, abortRefusal}
 use Rattle.outbox.specs.Calls as Wire
-use Rattle.channels.specs.declared.Send.{Send}
+use Rattle.buffer.specs.declared.Send.{Send}
 use Rattle.recorder.specs.State.{withSend}
 use Rattle.recorder.specs.Outcomes.{Lent, lends, ends}
 use Rattle.recorder.specs.Outcomes as Ended
@@ -36,8 +36,8 @@ use Rattle.recorder.specs.declared.Device.{Device}
 use Rattle.recorder.proofs.SendWays.{carries-as}
 use Rattle.model.specs.Said.{says, saysZeros, counts, hands}
 use Rattle.model.specs.Inbox.{Inbox}
-use Rattle.model.specs.Outbox.{took, purged, Outbox, holding, SendCall, send, sendText, take, done, abort}
-use Rattle.model.specs.Outbox.{Posted, posted, putText, takes, takesInto, finishes, aborts, posts}
+use Rattle.model.specs.Outbox.{took, purged, Outbox, holding, SendCall, send, sendText, take, done, abort, Posted}
+use Rattle.model.specs.Outbox.{posted, putText, takes, takesInto, finishes, aborts, posts}
 use Rattle.model.specs.Outbox as Model
 use Rattle.model.proofs.Numbers.{textNumbers, each-is}
 use Rattle.model.specs.Box.{box, Step, steps, noted, onSend, step}
@@ -46,8 +46,8 @@ use Rattle.promises.specs.Calls.{outcome}
 use Rattle.promises.specs.Stands.{Holds, SoundMessage, Register, Sends, Stands}
 use Rattle.promises.proofs.Holding.{all-snoc, holds-count, holds-more, holds-rest, holds-none}
 use Rattle.promises.proofs.Sound.{message-is, message-event-sound, sent-sound}
-use Rattle.promises.proofs.Agreeing.{receive-usable, receive-possible, send-possible, Agrees}
-use Rattle.promises.proofs.Agreeing.{agrees-as, goes-first, goes-second, notes, notes-if, told}
+use Rattle.promises.proofs.Agreeing.{receive-usable, receive-possible, send-possible, Agrees, agrees-as}
+use Rattle.promises.proofs.Agreeing.{goes-first, goes-second, notes, notes-if, told}
 
 -- a step of the box that a send call makes
 abbrev Mailed : Device → ℕ → Inbox → Posted → Step
@@ -71,9 +71,9 @@ module _ (d : Device) (q t out : List ℕ) (i : ℕ) (b : Inbox) (o : Outbox) (h
   unfolding possible
   able = rw (h .possible, send-possible (d .send) t o (h .outbox))
 
-  ready : usable (d .shared) (d .send) (length t) ≡ true
-  unfolding usable
-  ready = rw (able, h .outbox .messages .long)
+  send-ready : ready (d .shared) (d .send) (length t) ≡ true
+  unfolding ready
+  send-ready = rw (able, h .outbox .messages .long)
 
   count-is : d .send .ring .count ≡ length (o .buffer)
   count-is = holds-count messageBytes messageSize sendLimit (d .send .ring) t (o .buffer) (h .outbox .messages)
@@ -98,14 +98,14 @@ module _ (d : Device) (q t out : List ℕ) (i : ℕ) (b : Inbox) (o : Outbox) (h
   put-not : (own : ℕ) (beside : ℕ → ℕ) (m : Message) (v : ℕ) → eqb own 0 ≡ false
       → Put own beside m v ≡ Wire.refused own (beside own) [] (d .send) t
   unfolding putRefusal
-  put-not own beside m v z = rw (ready, z, z)
+  put-not own beside m v z = rw (send-ready, z, z)
 
   -- put behind the newest, beside a value, or there is no place
   put-is : (beside : ℕ → ℕ) (m : Message) (v : ℕ) → beside 5 ≡ 0 → SoundMessage m
       → Agrees (lifted (Put 0 beside m v) d l) out (Mailed d i b (Model.put (counts v) m o))
   unfolding putRefusal
   put-is beside m v five s =
-      rw ready
+      rw send-ready
       (by-test (ltb (d .send .ring .count) (d .send .ring .capacity))
       (λ z. rw (z, sym room-is ∙ z) (
         told _ _ _ _ _,
@@ -164,12 +164,12 @@ module _ (d : Device) (q t out : List ℕ) (i : ℕ) (b : Inbox) (o : Outbox) (h
 
   taken-5 : (tick : ℕ) → d .send .held ≡ true → After tick ≡ Wire.refused 5 0 (replicate messageSize 0) (d .send) t
   unfolding Wire.taken takeRefusal waitRefusal
-  taken-5 tick e = rw (ready, e)
+  taken-5 tick e = rw (send-ready, e)
 
   taken-4 : (tick : ℕ) → d .send .held ≡ false → o .buffer ≡ []
       → After tick ≡ Wire.refused 4 0 (replicate messageSize 0) (d .send) t
   unfolding Wire.taken takeRefusal waitRefusal
-  taken-4 tick e n = rw (ready, e, eq-eqb (d .send .ring .count) 0 (count-is ∙ ap length n))
+  taken-4 tick e n = rw (send-ready, e, eq-eqb (d .send .ring .count) 0 (count-is ∙ ap length n))
 
   module _ (m : Message) (rest : List Message) (e : o .buffer ≡ m ∷ rest) where
     first : SoundMessage m
@@ -184,7 +184,7 @@ module _ (d : Device) (q t out : List ℕ) (i : ℕ) (b : Inbox) (o : Outbox) (h
     taken-0 : (tick : ℕ) → d .send .held ≡ false → After tick ≡ Wire.takes (d .send) tick m t
     unfolding Wire.taken takeRefusal waitRefusal
     taken-0 tick z =
-        rw (ready, z, ne-eqb (d .send .ring .count) 0 (λ y. omega (arith, count-is, ap length e)), oldest-is)
+        rw (send-ready, z, ne-eqb (d .send .ring .count) 0 (λ y. omega (arith, count-is, ap length e)), oldest-is)
         (rw (message-is m first .0, message-is m first .1))
 
     after-take : Sends (afterTake (d .send) m) t (holding o rest (some m) (o .sent) (o .gone ++ took m ∷ []))

@@ -17,21 +17,22 @@ use Rattle.digits.specs.Digits.{hexDigit, hex, decimalIn, fields}
 use Rattle.digits.specs.Reading.{byteKind}
 use Rattle.ids.specs.Ids.{isFormat, idBits, idLow, rawOf}
 use Rattle.ids.specs.Frames.{headerRefusal, carried}
-use Rattle.ids.specs.Filters.{isFilter, filterLow, dataCompared, free, fieldMeets, idPasses}
-use Rattle.ids.specs.Filters.{byteMeets, dataPasses, modeTakes, framePasses, freeBits, letThrough}
+use Rattle.ids.specs.Filters.{isFilter, filterLow, dataCompared, free, fieldMeets, idPasses, byteMeets, dataPasses}
+use Rattle.ids.specs.Filters.{modeTakes, framePasses, freeBits, letThrough}
 use Rattle.ids.specs.EventMask.{maskBit, maskLets}
-use Rattle.messages.specs.Records.{messageSize, stored, goodMessage, messageBytes}
-use Rattle.messages.specs.Records.{messageIn, isMessage, noMessage, judgeMessage}
+use Rattle.messages.specs.Records.{messageSize, stored, goodMessage, messageBytes, messageIn, isMessage, noMessage}
+use Rattle.messages.specs.Records.{judgeMessage}
 use Rattle.events.specs.Records.{eventSize, holdsFrame, kindOf, eventBytes, eventIn, isEvent}
 use Rattle.messages.specs.declared.Message.{Message}
-use Rattle.channels.specs.Receiving.{goodReceive}
-use Rattle.inbox.specs.Refusals.{ready, raiseRefusal, oldestRefusal, recordRefusal, textRefusal, throughRefusal}
+use Rattle.queue.specs.Channel.{goodReceive, oldestRefusal}
+use Rattle.inbox.specs.Refusals.{raiseRefusal, recordRefusal, textRefusal, throughRefusal}
 use Rattle.inbox.specs.Refusals as Judged
-use Rattle.inbox.specs.Calls.{queued, unfiltered, meets}
+use Rattle.queue.specs.Recording.{queued, unfiltered}
+use Rattle.inbox.specs.Calls.{meets}
 use Rattle.inbox.specs.Calls as Queue
 use Rattle.events.specs.Raised.{filtered, eventOf}
-use Rattle.channels.specs.Sending.{goodSend}
-use Rattle.outbox.specs.Refusals.{possible, usable, putRefusal}
+use Rattle.buffer.specs.Channel.{goodSend}
+use Rattle.outbox.specs.Refusals.{possible, ready, putRefusal}
 use Rattle.outbox.specs.Calls as Outbox
 use Rattle.settings.specs.TxMode.{goodTx}
 use Rattle.message_text.specs.Numbers.{numbersFrom, beforeEnd, endRun}
@@ -164,10 +165,10 @@ rows =
 pub sheet : map (λ (r : Row). r .said) rows ≡ map (λ (r : Row). r .paper) rows
 unfolding rows warning reading-one outcome opened goodShared good formatOf goodReceive goodRing goodTx goodSend
     modeTakes textSent readMessage beforeEnd endRun byteKind
-    judged judgedData numbersFrom rawOf isFormat idLow idBits carried allBytes Outbox.textSent putRefusal usable
+    judged judgedData numbersFrom rawOf isFormat idLow idBits carried allBytes Outbox.textSent putRefusal ready
     possible slotOf store slot ring messageBytes linePrinted messageRefusal
     headerRefusal messageLine messageText hex hexDigit fields raised holdsFrame kindOf eventOf stored Queue.raised
-    Judged.possible ready raiseRefusal meets unfiltered filtered framePasses idPasses isFilter
+    Judged.possible Judged.ready raiseRefusal meets unfiltered filtered framePasses idPasses isFilter
     filterLow dataCompared free fieldMeets byteMeets dataPasses maskBit maskLets queued eventBytes through freeBits
     letThrough Queue.through throughRefusal run next recordRead Queue.recordRead recordRefusal oldestRefusal isEvent
 sheet = refl
@@ -222,9 +223,9 @@ pub others-too : map (λ (r : Row). r .said) others ≡ map (λ (r : Row). r .pa
 unfolding others received warning reading-one outcome opened goodShared good formatOf goodReceive goodRing goodTx
     goodSend modeTakes textSent readMessage beforeEnd endRun
     byteKind judged judgedData numbersFrom rawOf isFormat idLow idBits carried allBytes Outbox.textSent putRefusal
-    usable possible slotOf store slot ring messageBytes linePrinted messageRefusal
+    ready possible slotOf store slot ring messageBytes linePrinted messageRefusal
     headerRefusal messageLine messageText hex hexDigit fields raised holdsFrame kindOf eventOf stored Queue.raised
-    Judged.possible ready raiseRefusal meets unfiltered filtered framePasses idPasses isFilter
+    Judged.possible Judged.ready raiseRefusal meets unfiltered filtered framePasses idPasses isFilter
     filterLow dataCompared free fieldMeets byteMeets dataPasses maskBit maskLets queued eventBytes through freeBits
     letThrough Queue.through throughRefusal run next recordRead Queue.recordRead recordRefusal oldestRefusal isEvent
     textRead Queue.textRead textRefusal eventIn judgeMessage messageIn isMessage goodMessage eventLine eventText

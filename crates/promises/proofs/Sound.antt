@@ -20,7 +20,8 @@ use Rattle.events.specs.Raised.{eventOf, frameRefusal}
 use Rattle.messages.specs.declared.Message.{Message}
 use Rattle.events.specs.declared.Event.{Event}
 use Rattle.events.specs.declared.Kind.the-variants.{Other}
-use Rattle.messages.proofs.RoundTrip.{stored-length, stored-good, message-back, good-is, message-in-back, good-refusal}
+use Rattle.messages.proofs.RoundTrip.{stored-length, stored-good, message-back, good-is, message-in-back}
+use Rattle.messages.proofs.RoundTrip.{good-refusal}
 use Rattle.events.proofs.RoundTrip.{event-back, event-good-is, event-as}
 use Rattle.message_text.proofs.Ids.{raw-good}
 use Rattle.settings.specs.Binary.{sentFormat, binaryRefusal, sentMessage}

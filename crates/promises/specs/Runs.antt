@@ -8,7 +8,7 @@ use Rattle.common.specs.Slots.{ring}
 use Rattle.common.specs.declared.Ring.{Ring}
 use Rattle.messages.specs.Records.{messageSize}
 use Rattle.events.specs.Records.{eventSize}
-use Rattle.channels.specs.Receiving.{slotAt}
+use Rattle.queue.specs.Channel.{slotAt}
 use Rattle.settings.specs.declared.Settings.{Settings}
 use Rattle.recorder.specs.Outcomes.{Lent, lends, Outcome}
 use Rattle.recorder.specs.Receiving.{opened}

@@ -16,10 +16,10 @@ use Rattle.messages.specs.declared.Message.{Message}
 use Rattle.events.specs.declared.Event.{Event}
 use Rattle.settings.specs.Ranges.{goodShared}
 use Rattle.settings.specs.TxMode.{goodTx}
-use Rattle.channels.specs.Receiving.{queueLimit}
-use Rattle.channels.specs.declared.Receive.{Receive}
-use Rattle.channels.specs.Sending.{sendLimit}
-use Rattle.channels.specs.declared.Send.{Send}
+use Rattle.queue.specs.Channel.{queueLimit}
+use Rattle.queue.specs.declared.Receive.{Receive}
+use Rattle.buffer.specs.Channel.{sendLimit}
+use Rattle.buffer.specs.declared.Send.{Send}
 use Rattle.recorder.specs.Outcomes.{Outcome}
 use Rattle.recorder.specs.declared.Device.{Device}
 use Rattle.model.specs.Said.{Said}

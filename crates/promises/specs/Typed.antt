@@ -8,9 +8,8 @@ use Rattle.messages.specs.declared.Message.{Message}
 use Rattle.settings.specs.declared.Settings.{Settings}
 use Rattle.model.specs.Inbox.{ReceiveCall, readRecord, readText, look, setFilter, setEventMask, identifiersThrough}
 use Rattle.model.specs.Outbox.{SendCall, send, sendText, take, done, abort}
-use Rattle.model.specs.Box.{DeviceCall, raise, setMode, setFormat}
-use Rattle.model.specs.Box.{PrintCall, printMessageRecord, printEventRecord, printMessage}
-use Rattle.model.specs.Box.{Call, onDevice, onReceive, onSend, onAlign, Asked}
+use Rattle.model.specs.Box.{DeviceCall, raise, setMode, setFormat, PrintCall, printMessageRecord, printEventRecord}
+use Rattle.model.specs.Box.{printMessage, Call, onDevice, onReceive, onSend, onAlign, Asked}
 
 -- a 32-bit number
 abbrev pub Word : ℕ → Type 0

@@ -8,10 +8,10 @@ use Prim.Native.Nat.{ℕ}
 use lib.ListN.{length}
 use Rattle.common.proofs.Bools.{and-left}
 use Rattle.messages.specs.declared.Message.{Message}
-use Rattle.channels.specs.Receiving.{goodReceive, usable}
-use Rattle.channels.specs.declared.Receive.{Receive}
-use Rattle.channels.specs.Sending.{sendFits}
-use Rattle.channels.specs.declared.Send.{Send}
+use Rattle.queue.specs.Channel.{goodReceive, usable}
+use Rattle.queue.specs.declared.Receive.{Receive}
+use Rattle.buffer.specs.Channel.{sendFits}
+use Rattle.buffer.specs.declared.Send.{Send}
 use Rattle.recorder.specs.State.{good, withReceive}
 use Rattle.recorder.specs.Outcomes.{Lent, Outcome, queueReady, sendReady, bothReady, withQueue}
 use Rattle.recorder.specs.Sending.{sent, textSent, taken, finished, aborted}

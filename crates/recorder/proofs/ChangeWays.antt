@@ -8,8 +8,8 @@ use Rattle.messages.specs.Records.{noMessage}
 use Rattle.events.specs.Raised.{eventOf}
 use Rattle.settings.specs.Ranges.{goodShared}
 use Rattle.settings.specs.declared.Shared.{Shared}
-use Rattle.inbox.specs.Calls.{RaiseMet, unfiltered}
-use Rattle.channels.specs.declared.Receive.{Receive}
+use Rattle.queue.specs.Recording.{RaiseMet, unfiltered}
+use Rattle.queue.specs.declared.Receive.{Receive}
 use Rattle.inbox.proofs.Laws.{no-filter}
 use Rattle.recorder.specs.State.{withShared, withReceive}
 use Rattle.recorder.specs.Outcomes.{Lent, ends, refuses, queueReady, withQueue, met, answers, QueueMet}

@@ -4,8 +4,8 @@ use mathlib.Core.Bool.{true, false}
 use mathlib.Core.List.{[]}
 use lib.ListN.{length}
 use Rattle.settings.specs.declared.Settings.{Settings}
-use Rattle.channels.specs.Receiving.{queueFits}
-use Rattle.channels.specs.Sending.{sendFits}
+use Rattle.queue.specs.Channel.{queueFits}
+use Rattle.buffer.specs.Channel.{sendFits}
 use Rattle.recorder.specs.State.{good, fresh, noDevice}
 use Rattle.recorder.specs.Outcomes.{Lent, ends, refuses}
 use Rattle.recorder.specs.Receiving.{opened}

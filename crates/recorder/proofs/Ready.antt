@@ -12,8 +12,8 @@ use Rattle.messages.specs.declared.Message.{Message}
 use Rattle.events.specs.Raised.{eventOf}
 use Rattle.events.proofs.OfCode.{event-code}
 use Rattle.settings.specs.Ranges.{goodShared}
-use Rattle.channels.specs.Receiving.{goodReceive, queueFits, usable}
-use Rattle.channels.specs.Sending.{goodSend}
+use Rattle.queue.specs.Channel.{goodReceive, queueFits, usable}
+use Rattle.buffer.specs.Channel.{goodSend}
 use Rattle.recorder.specs.State.{good}
 use Rattle.recorder.specs.Outcomes.{Lent, queueReady}
 use Rattle.recorder.specs.declared.Device.{Device}

@@ -10,12 +10,13 @@ use Rattle.common.proofs.Choices.{pick-is}
 use Rattle.events.specs.Raised.{eventOf}
 use Rattle.messages.specs.declared.Message.{Message}
 use Rattle.settings.specs.declared.Shared.{Shared}
-use Rattle.inbox.specs.Calls.{raises}
-use Rattle.channels.specs.declared.Receive.{Receive}
-use Rattle.inbox.proofs.Laws.{no-filter, NextBy, stays, next-past}
+use Rattle.queue.specs.Recording.{raises}
+use Rattle.queue.specs.declared.Receive.{Receive}
+use Rattle.inbox.proofs.Laws.{no-filter}
+use Rattle.queue.proofs.Laws.{NextBy, stays, next-past}
 use Rattle.outbox.specs.Calls as Outbox
 use Rattle.outbox.specs.declared.Raised.{Raised}
-use Rattle.channels.specs.declared.Send.{Send}
+use Rattle.buffer.specs.declared.Send.{Send}
 use Rattle.outbox.specs.declared.Sent.{Sent}
 use Rattle.outbox.specs.declared.Taken.{Taken as TakenOut}
 use Rattle.outbox.specs.declared.Emptied.{Emptied}

@@ -5,8 +5,6 @@ use mathlib.Core.Path.{_≡_, sym, _∙_}
 use mathlib.Core.List.{List}
 use Prim.Native.Nat.{ℕ}
 use Rattle.recorder.specs.Outcomes.{Outcome, QueueMet, SendMet, OutMet, TakeMet, PrintMet}
-use Rattle.recorder.specs.Receiving.{LookMet}
-use Rattle.recorder.specs.declared.Device.{Device}
 use Rattle.recorder.specs.declared.Answer.{Answer}
 use Rattle.recorder.specs.declared.Taken.{Taken}
 use Rattle.digits.specs.declared.Printed.{Printed}
@@ -34,8 +32,3 @@ take-unique m n = (alike (m .answer) (n .answer), alike (m .queue-bytes) (n .que
 -- print_message, print_message_record, print_event_record
 pub print-unique : {o : Outcome} {r s : Printed} {t u : List ℕ} → PrintMet o r t → PrintMet o s u → (r ≡ s) × (t ≡ u)
 print-unique m n = (alike (m .answer) (n .answer), alike (m .out-bytes) (n .out-bytes))
-
--- look: the part's bytes and where it points, as block and offset; the ghost name of the reference stays open
-pub look-unique : {d : Device} {t : List ℕ} {p : ℕ} {a : ℕ × ℕ} {b c : List ℕ} {at bt : ℕ × ℕ}
-    → LookMet d t p a b at → LookMet d t p a c bt → (b ≡ c) × (at .0 ≡ bt .0) × (at .1 ≡ bt .1)
-look-unique m n = (alike (m .bytes) (n .bytes), alike (m .block) (n .block), alike (m .offset) (n .offset))

@@ -6,9 +6,10 @@ use mathlib.Core.List.{List, []}
 use lib.ListN.{length}
 use Rattle.events.specs.declared.Event.{Event}
 use Rattle.digits.specs.declared.Printed.{Printed}
-use Rattle.channels.specs.Receiving.{queueFits}
-use Rattle.inbox.specs.Calls.{Raising, meets}
-use Rattle.channels.specs.Sending.{sendFits}
+use Rattle.queue.specs.Channel.{queueFits}
+use Rattle.queue.specs.Recording.{Raising}
+use Rattle.inbox.specs.Calls.{meets}
+use Rattle.buffer.specs.Channel.{sendFits}
 use Rattle.recorder.specs.State.{good, withReceive}
 use Rattle.recorder.specs.declared.Device.{Device}
 use Rattle.recorder.specs.declared.Answer.{Answer}

@@ -9,9 +9,10 @@ use Rattle.messages.specs.Records.{messageSize}
 use Rattle.events.specs.Raised.{eventOf}
 use Rattle.messages.specs.declared.Message.{Message}
 use Rattle.settings.specs.declared.Shared.{Shared}
-use Rattle.channels.specs.Receiving.{goodReceive, usable}
-use Rattle.inbox.specs.Calls.{Raising, raises, unfiltered, meets}
-use Rattle.channels.specs.declared.Receive.{Receive}
+use Rattle.queue.specs.Channel.{goodReceive, usable}
+use Rattle.queue.specs.Recording.{Raising, raises, unfiltered}
+use Rattle.inbox.specs.Calls.{meets}
+use Rattle.queue.specs.declared.Receive.{Receive}
 use Rattle.outbox.specs.Calls as Outbox
 use Rattle.outbox.specs.declared.Raised.{Raised}
 use Rattle.outbox.specs.declared.Emptied.{Emptied}
@@ -39,7 +40,7 @@ pub record EmptiedMet (d : Device) (o : Emptied) (g : Raising) (r : Answer) (que
   pub answer : r ≡ answers (o .number) (o .value) (withReceive (withSend d (o .send)) (g .receive))
   pub queue-bytes : queue ≡ g .table
 
--- the same with the event carried to the queue: number, value and bytes stay
+-- what the outbox answers and leaves, on the device, with the event that it raises carried to the queue
 abbrev pub carrying : Outbox.Outcome → Device → Lent → Outcome
 carrying o d l =
     let r : Raising = carriedOver (o .raised) (d .shared) (d .receive) (l .queue) in

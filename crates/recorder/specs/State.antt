@@ -5,10 +5,10 @@ use Rattle.messages.specs.Records.{noMessage}
 use Rattle.settings.specs.Ranges.{goodShared}
 use Rattle.settings.specs.declared.Shared.{Shared}
 use Rattle.settings.specs.declared.Settings.{Settings}
-use Rattle.channels.specs.Receiving.{goodReceive}
-use Rattle.channels.specs.declared.Receive.{Receive}
-use Rattle.channels.specs.Sending.{goodSend}
-use Rattle.channels.specs.declared.Send.{Send}
+use Rattle.queue.specs.Channel.{goodReceive}
+use Rattle.queue.specs.declared.Receive.{Receive}
+use Rattle.buffer.specs.Channel.{goodSend}
+use Rattle.buffer.specs.declared.Send.{Send}
 use Rattle.recorder.specs.declared.Device.{Device}
 
 -- settings and state numbers that a device can have

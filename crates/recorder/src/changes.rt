@@ -19,10 +19,16 @@ fn change(d: Device, s: Shared, tick: u32, queue: &mut [u8]) -> Answer
         return state::answer(1, 0, d);
     }
     let receive = d.receive;
-    let met = inbox::raising::past_filter(receive, 5, tick, messages::records::no_message(), queue);
+    let met = queue::recording::past_filter(
+        receive,
+        5,
+        tick,
+        messages::records::no_message(),
+        queue,
+    );
     let after = state::with_receive(
         state::with_shared(d, s),
-        inbox::raising::after_raise(receive, met),
+        queue::recording::after_raise(receive, met),
     );
     state::answer(0, 0, after)
 }
@@ -57,7 +63,7 @@ pub fn set_format(d: Device, format: u32, tick: u32, queue: &mut [u8]) -> Answer
 pub fn set_filter(d: Device, code: u32, mask: u32) -> Answer
     ensures { λ r. ⌜ r ≡ answerOf (filterSet code mask d (lends [] [] [])) ⌝ }
 {
-    if !channels::sending::is_send(d.send) {
+    if !buffer::channel::is_send(d.send) {
         return state::answer(2, 0, d);
     }
     let o = inbox::changing::set_filter(d.shared, d.receive, code, mask);
@@ -69,7 +75,7 @@ pub fn set_filter(d: Device, code: u32, mask: u32) -> Answer
 pub fn set_event_mask(d: Device, events: u32) -> Answer
     ensures { λ r. ⌜ r ≡ answerOf (eventMaskSet events d (lends [] [] [])) ⌝ }
 {
-    if !channels::sending::is_send(d.send) {
+    if !buffer::channel::is_send(d.send) {
         return state::answer(2, 0, d);
     }
     let o = inbox::changing::set_event_mask(d.shared, d.receive, events);

@@ -7,10 +7,10 @@ pub mod register;
 pub mod sending;
 mod state;
 
-use channels::Receive;
-use channels::Send;
+use buffer::Send;
 use events::records::EVENT;
 use messages::records::MESSAGE;
+use queue::Receive;
 use settings::Shared;
 
 // The whole state of a device, by value.

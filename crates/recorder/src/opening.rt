@@ -2,10 +2,10 @@
 use crate::Answer;
 use crate::Device;
 use crate::state;
-use channels::Receive;
-use channels::Send;
+use buffer::Send;
 use common::Ring;
 use ids::Filter;
+use queue::Receive;
 use settings::Settings;
 use settings::Shared;
 ghost use mathlib.Core.Path.{_≡_};
@@ -94,10 +94,10 @@ pub fn open(s: Settings, queue: &[u8], send: &[u8]) -> Answer
     if !state::is_good(d) {
         return state::answer(1, 0, no_device());
     }
-    if !channels::receiving::fits(d.receive, queue.len()) {
+    if !queue::channel::fits(d.receive, queue.len()) {
         return state::answer(2, 0, no_device());
     }
-    if !channels::sending::fits(d.send, send.len()) {
+    if !buffer::channel::fits(d.send, send.len()) {
         return state::answer(2, 0, no_device());
     }
     state::answer(0, 0, d)

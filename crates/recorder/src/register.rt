@@ -4,15 +4,15 @@ use crate::Answer;
 use crate::Device;
 use crate::Taken;
 use crate::state;
-use channels::Receive;
 use messages::records::MESSAGE;
 use outbox::Emptied;
 use outbox::Raised;
+use queue::Receive;
 ghost use mathlib.Core.Path.{_≡_};
 ghost use mathlib.Core.Bool.{true};
 ghost use mathlib.Core.List.{[]};
-ghost use Rattle.channels.specs.Receiving.{usable};
-ghost use Rattle.inbox.specs.Calls.{RaiseMet};
+ghost use Rattle.queue.specs.Channel.{usable};
+ghost use Rattle.queue.specs.Recording.{RaiseMet};
 ghost use Rattle.recorder.specs.Outcomes.{lends, QueueMet, TakeMet};
 ghost use Rattle.recorder.specs.Sending.{carriedPast, EmptiedMet, taken, finished, aborted};
 
@@ -25,7 +25,7 @@ fn carry(r: Receive, e: Raised, queue: &mut [u8]) -> u32
         return 0;
     }
     let m = e.message;
-    inbox::raising::past_filter(r, e.code, e.tick, m, queue)
+    queue::recording::past_filter(r, e.code, e.tick, m, queue)
 }
 
 // What done and abort answer, with the event carried to the queue.
@@ -37,7 +37,7 @@ fn emptied(d: Device, o: Emptied, queue: &mut [u8]) -> Answer
     let next = o.send;
     let receive = d.receive;
     let met = carry(receive, o.raised, queue);
-    let after = state::with_channels(d, inbox::raising::after_raise(receive, met), next);
+    let after = state::with_channels(d, queue::recording::after_raise(receive, met), next);
     state::answer(o.number, o.value, after)
 }
 
@@ -59,7 +59,7 @@ pub fn take(d: Device, tick: u32, send: &[u8], queue: &mut [u8]) -> Taken
     let next = o.send;
     let receive = d.receive;
     let met = carry(receive, o.raised, queue);
-    let after = state::with_channels(d, inbox::raising::after_raise(receive, met), next);
+    let after = state::with_channels(d, queue::recording::after_raise(receive, met), next);
     Taken {
         number: o.number,
         bytes: b,

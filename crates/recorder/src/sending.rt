@@ -12,7 +12,7 @@ ghost use Rattle.recorder.specs.Sending.{sent, textSent};
 pub fn send(d: Device, m: Message, send: &mut [u8]) -> Answer
     ensures { λ r. ⌜ SendMet (sent m d (lends [] (now (send .entry)) [])) r (now (send .exit)) ⌝ }
 {
-    if !channels::receiving::is_receive(d.receive) {
+    if !queue::channel::is_receive(d.receive) {
         return state::answer(2, 0, d);
     }
     let o = outbox::calls::send(d.shared, d.send, m, send);
@@ -24,7 +24,7 @@ pub fn send(d: Device, m: Message, send: &mut [u8]) -> Answer
 pub fn send_text(d: Device, text: &[u8], send: &mut [u8]) -> Answer
     ensures { λ r. ⌜ SendMet (textSent (now (text .entry)) d (lends [] (now (send .entry)) [])) r (now (send .exit)) ⌝ }
 {
-    if !channels::receiving::is_receive(d.receive) {
+    if !queue::channel::is_receive(d.receive) {
         return state::answer(2, 0, d);
     }
     let o = outbox::calls::send_text(d.shared, d.send, text, send);

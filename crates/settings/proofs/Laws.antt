@@ -5,10 +5,11 @@ use mathlib.Core.Bool.{Bool, true, false, not, _&&_}
 use Prim.Native.Nat.{ℕ, zero, suc, _+_, _≤_, _<_}
 use native.Mathlib.Omega.{arith}
 use lib.Dec.{leb, eqb}
-use borrow.Author.Tests.{eqb-true, eq-eqb, ne-eqb, le-leb, lt-leb}
+use borrow.Author.Tests.{eqb-true, eq-eqb, ne-eqb, lt-leb}
 use Rattle.common.proofs.Choices.{pick-is}
 use Rattle.ids.specs.Ids.{isFormat, rawOf}
 use Rattle.ids.specs.Filters.{modeTakes}
+use Rattle.ids.specs.Frames.{rtrDlcRefusal}
 use Rattle.ids.specs.declared.Id.{Id}
 use Rattle.ids.specs.declared.Id.the-variants.{Good, Bad}
 use Rattle.messages.specs.Records.{stored}
@@ -34,30 +35,23 @@ tx-bad tx h =
     let g = ne-eqb tx 7 (λ e. h (inr (inr (inr e)))) in
     simp (ne-eqb tx 1 (λ e. h (inl e)), ne-eqb tx 3 (λ e. h (inr (inl e))), f, g)
 
--- ---- a binary message: bring-N is the way that answers N, no-format and no-mode answer 13, kept stores the message
+-- ---- a binary message: bring-13 and bring-8 are the ways that answer so, bring-9-10 answers 9 or 10, and kept stores
+-- the message
 module _ (s : Shared) (m : Message) (r : Brought) (f : ℕ) (e : f ≡ sentFormat s m) where
-  pub no-format : isFormat f ≡ false → r ≡ notBrought 13 → r ≡ brought s m
+  pub bring-13 : (isFormat f && modeTakes (s .mode) f) ≡ false → r ≡ notBrought 13 → r ≡ brought s m
   unfolding brought binaryRefusal
-  no-format h q = rw (← e, h) q
+  bring-13 h q = rw (← e, h) q
 
-  module _ (known : isFormat f ≡ true) where
-    pub no-mode : modeTakes (s .mode) f ≡ false → r ≡ notBrought 13 → r ≡ brought s m
-    unfolding brought binaryRefusal
-    no-mode h q = rw (← e, known, h) q
-
-    module _ (takes-it : modeTakes (s .mode) f ≡ true) (i : Id) (raw : i ≡ rawOf (s .align) f (m .header .id)) where
+  module _ (h : (isFormat f && modeTakes (s .mode) f) ≡ true) (i : Id) (raw : i ≡ rawOf (s .align) f (m .header .id))
+    where
       pub bring-8 : i ≡ Bad → r ≡ notBrought 8 → r ≡ brought s m
       unfolding brought binaryRefusal
-      bring-8 h q = rw (← e, known, takes-it, ← raw, h) q
+      bring-8 b q = rw (← e, h, ← raw, b) q
 
-      module _ (id : ℕ) (h : i ≡ Good id) where
-        pub bring-9 : 1 < m .header .rtr → r ≡ notBrought 9 → r ≡ brought s m
+      module _ (id : ℕ) (g : i ≡ Good id) (n : ℕ) (rest : n ≡ rtrDlcRefusal (m .header .rtr) (m .header .dlc)) where
+        pub bring-9-10 : (n ≡ 0 → ⊥) → r ≡ notBrought n → r ≡ brought s m
         unfolding brought binaryRefusal
-        bring-9 x q = rw (← e, known, takes-it, ← raw, h, lt-leb _ _ x) q
-
-        pub bring-10 : m .header .rtr ≤ 1 → 15 < m .header .dlc → r ≡ notBrought 10 → r ≡ brought s m
-        unfolding brought binaryRefusal
-        bring-10 x y q = rw (← e, known, takes-it, ← raw, h, le-leb _ _ x, lt-leb _ _ y) q
+        bring-9-10 z q = rw (← e, h, ← raw, g, ← rest, ne-eqb n 0 z) q
 
         abbrev given : Message
         given = record {
@@ -65,10 +59,9 @@ module _ (s : Shared) (m : Message) (r : Brought) (f : ℕ) (e : f ≡ sentForma
           bytes = m .bytes;
         }
 
-        pub kept : m .header .rtr ≤ 1 → m .header .dlc ≤ 15 → r ≡ record { number = 0; message = stored given }
-            → r ≡ brought s m
+        pub kept : n ≡ 0 → r ≡ record { number = 0; message = stored given } → r ≡ brought s m
         unfolding brought binaryRefusal
-        kept x y q = rw (← e, known, takes-it, ← raw, h, le-leb _ _ x, le-leb _ _ y) q
+        kept z q = rw (← e, h, ← raw, g, ← rest, z) q
 
 -- ---- what is brought: the refusal's number, and beside 0 the message to store
 module _ (s : Shared) (m : Message) where

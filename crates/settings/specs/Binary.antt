@@ -1,10 +1,11 @@
 -- A message that comes as binary: format 0, 1 or 2, aligned identifier (01, "Sending").
 use Prim.Native.Nat.{ℕ}
 use mathlib.Core.Bool.{_&&_}
-use lib.Dec.{leb, eqb}
+use lib.Dec.{eqb}
 use Rattle.common.specs.Choice.{pick}
 use Rattle.ids.specs.Ids.{isFormat, rawOf, isBad, idNumber}
 use Rattle.ids.specs.Filters.{modeTakes}
+use Rattle.ids.specs.Frames.{rtrDlcRefusal}
 use Rattle.messages.specs.Records.{stored, noMessage}
 use Rattle.messages.specs.declared.Message.{Message}
 use Rattle.settings.specs.Ranges.{formatOf}
@@ -20,8 +21,7 @@ unfoldable pub binaryRefusal : Shared → Message → ℕ
 binaryRefusal s m =
     pick (isFormat (sentFormat s m) && modeTakes (s .mode) (sentFormat s m))
     (pick (isBad (rawOf (s .align) (sentFormat s m) (m .header .id))) 8
-    (pick (leb (m .header .rtr) 1) (pick (leb (m .header .dlc) 15) 0 10) 9))
-    13
+    (rtrDlcRefusal (m .header .rtr) (m .header .dlc))) 13
 
 -- the message that is stored: its identifier made raw, bytes not carried as zero
 abbrev pub sentMessage : Shared → Message → Message

@@ -1,3 +1,4 @@
 pub mod Ranges
 pub mod TxMode
 pub mod Binary
+pub mod Given

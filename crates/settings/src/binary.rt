@@ -6,6 +6,9 @@ use ids::Header;
 use ids::Id;
 use messages::Message;
 ghost use mathlib.Core.Path.{_≡_};
+ghost use mathlib.Core.Bool.{_&&_};
+ghost use Rattle.ids.specs.Ids.{isFormat};
+ghost use Rattle.ids.specs.Filters.{modeTakes};
 ghost use Rattle.settings.specs.Binary.{notBrought, brought};
 
 fn refuse(number: u32) -> Brought
@@ -18,26 +21,31 @@ fn refuse(number: u32) -> Brought
     }
 }
 
+// A format 1 or 2 that a mode takes.
+fn is_sendable(mode: u32, format: u32) -> bool
+    ensures { λ ok. ⌜ ok ≡ (isFormat format && modeTakes mode format) ⌝ }
+{
+    if !ids::align::is_format(format) {
+        return false;
+    }
+    ids::acceptance::mode_takes(mode, format)
+}
+
 // The message to store, or why not.
 pub fn bring(s: Shared, m: Message) -> Brought
     ensures { λ r. ⌜ r ≡ brought s m ⌝ }
 {
     let given = m.header;
     let format = ranges::format_of(s, given.format);
-    if !ids::align::is_format(format) {
-        return refuse(13);
-    }
-    if !ids::acceptance::mode_takes(s.mode, format) {
+    if !is_sendable(s.mode, format) {
         return refuse(13);
     }
     let Id::Good(id) = ids::align::raw_id(s.align, format, given.id) else {
         return refuse(8);
     };
-    if 1 < given.rtr {
-        return refuse(9);
-    }
-    if 15 < given.dlc {
-        return refuse(10);
+    let n = ids::frame::rtr_dlc_refusal(given.rtr, given.dlc);
+    if n != 0 {
+        return refuse(n);
     }
     let h = Header {
         id: id,

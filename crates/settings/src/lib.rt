@@ -1,5 +1,6 @@
 // What opening is given, what all channels share, in range or not, and what the settings say of a message.
 pub mod binary;
+pub mod given;
 pub mod ranges;
 pub mod txmode;
 

@@ -1,5 +1,5 @@
 use Rattle.board.proofs.Ways.{not-with, look-taken, look-refused, look-shown}
-use Rattle.channels.proofs.Laws.{receive-ring}
+use Rattle.queue.proofs.Laws.{receive-ring}
 use Rattle.inbox.proofs.Laws.{look-good}
 use native.Mathlib.Omega.{arith}
 use Rattle.kept.proofs.Laws.{state-long}

@@ -1,7 +1,8 @@
 use mathlib.Core.List.{[]}
 use denote.Ref.{now}
 use Rattle.common.proofs.Bools.{said, denied}
-use Rattle.inbox.proofs.Laws.{next-by, room-for}
+use Rattle.inbox.proofs.Laws.{next-by}
+use Rattle.queue.proofs.Laws.{room-for}
 use Rattle.kept.proofs.Laws.{state-long}
 use Rattle.kept.proofs.Judged.{possible-state, possible-good, good-receive}
 use Rattle.board.proofs.Ways.{not-raised, raise-called}

@@ -1,6 +1,6 @@
 use Rattle.ids.specs.Frames.{headerRefusal}
 use Rattle.common.proofs.Bools.{said, denied}
-use borrow.Author.Tests.{le-leb, lt-leb, lt-ltb, le-ltb}
+use borrow.Author.Tests.{lt-ltb, le-ltb}
 use borrow.Author.Needs.{needs}
 use Rattle.ids.proofs.frame.header_refusal.Statement.{statement}
 use Rattle.ids.proofs.frame.header_refusal.Tie as tie
@@ -21,40 +21,15 @@ returns-2 c = simp (
 returns-3 : tie.Need-returns-3
 unfolding headerRefusal
 returns-3 c =
-    let b = c .before .before .before .before in
+    let b = c .before .before .before in
     simp (
       said (b .before .before .is-format .ensures) (b .before .if1 .left),
       ← b .id-limit .ensures,
-      lt-ltb _ _
-          (c .before .before .if2 .left),
-      lt-leb _ _ (c .if3 .taken),
-    )
-
-returns-4 : tie.Need-returns-4
-unfolding headerRefusal
-returns-4 c =
-    let b = c .before .before .before .before .before .before in
-    simp (
-      said (b .before .before .is-format .ensures) (b .before .if1 .left),
-      ← b .id-limit .ensures,
-      lt-ltb _ _ (c .before .before .before .before .if2 .left),
-      le-leb _ _ (c .before .before .if3 .left),
-      lt-leb _ _ (c .if4 .taken),
-    )
-
-returns-5 : tie.Need-returns-5
-unfolding headerRefusal
-returns-5 c =
-    let b = c .before .before .before .before .before .before in
-    simp (
-      said (b .before .before .is-format .ensures) (b .before .if1 .left),
-      ← b .id-limit .ensures,
-      lt-ltb _ _ (c .before .before .before .before .if2 .left),
-      le-leb _ _ (c .before .before .if3 .left),
-      le-leb _ _ (c .if4 .left),
+      lt-ltb _ _ (c .before .if2 .left),
+      c .rtr-dlc-refusal .ensures,
     )
 
 pub header-refusal-spec : {M : Type 1} → statement M
 header-refusal-spec =
     tie.close
-    (tie.spec (λ c κs. search needs) returns (λ c κs. search needs) returns-2 returns-3 returns-4 returns-5)
+    (tie.spec (λ c κs. search needs) returns (λ c κs. search needs) returns-2 (λ c κs. search needs) returns-3)

@@ -1,6 +1,6 @@
 use mathlib.Core.Path.{sym, _∙_}
 use borrow.Author.Needs.{needs}
-use Rattle.message_text.specs.Printing.{messageRefusal}
+use Rattle.message_text.specs.Printing.{messageRoom, messageRefusal}
 use Rattle.digits.proofs.Answers.{refused, no-room, no-align, passed}
 use Rattle.message_text.proofs.Printed.{id-not-bad, message-printed}
 use Rattle.message_text.proofs.printing.print_message.Statement.{statement}
@@ -8,18 +8,18 @@ use Rattle.message_text.proofs.printing.print_message.Tie as tie
 
 returns : tie.Need-returns
 unfolding messageRefusal
-returns c = no-room 37 _ (c .before .if1 .taken) (c .refuse .ensures)
+returns c = no-room messageRoom _ (c .before .if1 .taken) (c .refuse .ensures)
 
 returns-2 : tie.Need-returns-2
 unfolding messageRefusal
-returns-2 c = no-align 37 _ _ (c .before .before .if1 .left) (c .before .if2 .taken) (c .refuse2 .ensures)
+returns-2 c = no-align messageRoom _ _ (c .before .before .if1 .left) (c .before .if2 .taken) (c .refuse2 .ensures)
 
 returns-3 : tie.Need-returns-3
 unfolding messageRefusal
 returns-3 c =
     let n = c .before .before .header-refusal in
     let t = c .before .before .before .before .before in
-    refused (n .result) (c .refuse3 .ensures) (passed 37 _ _ _ (t .before .if1 .left) (t .if2 .left)
+    refused (n .result) (c .refuse3 .ensures) (passed messageRoom _ _ _ (t .before .if1 .left) (t .if2 .left)
     ∙ sym (n .ensures)) (c .before .if3 .taken)
 
 returns-4 : tie.Need-returns-4

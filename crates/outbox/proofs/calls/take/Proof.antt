@@ -1,7 +1,7 @@
 use denote.Ref.{now}
 use native.Mathlib.Omega.{arith}
 use Rattle.outbox.specs.Calls.{takenOf, taken}
-use Rattle.channels.proofs.Laws.{send-ring}
+use Rattle.buffer.proofs.Laws.{send-ring}
 use Rattle.outbox.proofs.Laws.{found-number, found-message, take-free, read-refused, read-done}
 use borrow.Author.Needs.{needs}
 use Rattle.outbox.proofs.calls.take.Statement.{statement}

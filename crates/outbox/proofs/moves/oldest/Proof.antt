@@ -4,7 +4,7 @@ use lib.ListN.{length}
 use native.Mathlib.Omega.{arith}
 use Rattle.common.proofs.RingFacts.{slot-inside}
 use Rattle.messages.specs.Records.{messageSize}
-use Rattle.channels.proofs.Laws.{send-ring}
+use Rattle.buffer.proofs.Laws.{send-ring}
 use Rattle.outbox.proofs.Laws.{fits-table, oldest-as}
 use borrow.Author.Needs.{needs}
 use Rattle.outbox.proofs.moves.oldest.Statement.{statement}

@@ -5,7 +5,7 @@ use lib.ListN.{length}
 use native.Mathlib.Omega.{arith}
 use Rattle.common.proofs.RingFacts.{slot-inside, store-part}
 use Rattle.messages.specs.Records.{messageSize, messageBytes}
-use Rattle.channels.proofs.Laws.{send-ring}
+use Rattle.buffer.proofs.Laws.{send-ring}
 use Rattle.outbox.proofs.Laws.{fits-table}
 use borrow.Author.Needs.{needs}
 use Rattle.outbox.proofs.moves.put.Statement.{statement}

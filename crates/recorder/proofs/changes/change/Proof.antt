@@ -4,8 +4,8 @@ use denote.Ref.{now}
 use Rattle.common.proofs.Bools.{said, denied}
 use Rattle.messages.specs.Records.{noMessage}
 use Rattle.events.specs.Raised.{eventOf}
-use Rattle.channels.specs.declared.Receive.{Receive}
-use Rattle.inbox.proofs.Laws.{next-past, room-for, built}
+use Rattle.queue.specs.declared.Receive.{Receive}
+use Rattle.queue.proofs.Laws.{next-past, room-for, built}
 use Rattle.recorder.specs.Outcomes.{lends}
 use Rattle.recorder.proofs.Meeting.{queue-met}
 use Rattle.recorder.proofs.Ready.{ready-usable}

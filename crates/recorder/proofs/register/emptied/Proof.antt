@@ -1,7 +1,7 @@
 use mathlib.Core.Path.{ap, _∙_}
 use denote.Ref.{now}
-use Rattle.channels.specs.declared.Receive.{Receive}
-use Rattle.inbox.proofs.Laws.{room-for, built}
+use Rattle.queue.specs.declared.Receive.{Receive}
+use Rattle.queue.proofs.Laws.{room-for, built}
 use Rattle.recorder.specs.State.{withReceive, withSend}
 use Rattle.recorder.specs.Outcomes.{answers}
 use Rattle.recorder.proofs.SendWays.{carried-next}

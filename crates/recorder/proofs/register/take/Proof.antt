@@ -2,8 +2,8 @@ use mathlib.Core.Path.{refl, ap, _∙_}
 use mathlib.Core.List.{[]}
 use denote.Ref.{now}
 use Rattle.common.proofs.Bools.{said, denied}
-use Rattle.channels.specs.declared.Receive.{Receive}
-use Rattle.inbox.proofs.Laws.{room-for, built}
+use Rattle.queue.specs.declared.Receive.{Receive}
+use Rattle.queue.proofs.Laws.{room-for, built}
 use Rattle.outbox.specs.Calls as Outbox
 use Rattle.outbox.proofs.Laws.{take-raises}
 use Rattle.recorder.specs.State.{withReceive, withSend}
