@@ -12,6 +12,7 @@ mod call;
 mod draw;
 mod lent;
 mod making;
+mod measured;
 mod mood;
 mod second;
 mod session;
