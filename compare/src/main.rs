@@ -3,12 +3,14 @@
 //!     compare calls CALLS SEED                  random calls, every public call with every refusal
 //!     compare bench INPUTS SEED BENCH STORED..  stored and random inputs of the bench program; BENCH is the proved one
 //!     compare speed ROUNDS BENCH SECOND         nanoseconds a call, and both bench programs
+//!     compare count                             instructions a call; valgrind runs `compare turn PLACE SIDE` for it
 //!
 //! The exit status is 1 if anything differs or something listed was never met.
 
 mod bench;
 mod board;
 mod call;
+mod count;
 mod draw;
 mod lent;
 mod making;
@@ -35,7 +37,11 @@ fn main() {
         ["calls", calls, seed] => compare_calls(number(calls), number(seed)),
         ["bench", inputs, seed, program, stored @ ..] => bench::compare(number(inputs), number(seed), program, stored),
         ["speed", rounds, program, second] => speed::table(number(rounds) as usize, program, second),
-        _ => fail("usage: compare calls CALLS SEED | bench INPUTS SEED BENCH STORED.. | speed ROUNDS BENCH SECOND"),
+        ["count"] => count::table(),
+        ["turn", place, side] => count::turn(number(place) as usize, number(side) as usize),
+        _ => fail(
+            "usage: compare calls CALLS SEED | bench INPUTS SEED BENCH STORED.. | speed ROUNDS BENCH SECOND | count",
+        ),
     }
 }
 
