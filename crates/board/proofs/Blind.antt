@@ -16,9 +16,10 @@ use Rattle.outbox.specs.Refusals.{doneRefusal, abortRefusal}
 use Rattle.outbox.specs.Calls as Outbox
 use Rattle.recorder.specs.State.{good}
 use Rattle.recorder.specs.Outcomes.{Lent, Outcome, refuses, queueReady, noted}
-use Rattle.recorder.specs.Receiving.{lifted, received, changed, filterSet, eventMaskSet, raised, recordRead, textRead}
-use Rattle.recorder.specs.Receiving.{lookSaid, through}
-use Rattle.recorder.specs.Sending.{carrying, sent, textSent, taken, finished, aborted}
+use Rattle.recorder.specs.Receiving.{lifted, onReceiving, raised, recordRead, textRead, lookSaid, through}
+use Rattle.recorder.specs.Changes.{changed, filterSet, eventMaskSet}
+use Rattle.recorder.specs.Register.{carrying, taken, finished, aborted}
+use Rattle.recorder.specs.Sending.{sent, textSent}
 use Rattle.recorder.specs.Printing.{linePrinted}
 use Rattle.recorder.specs.declared.Device.{Device}
 use Rattle.model.specs.Inbox.{readRecord, readText, look, setFilter, setEventMask, identifiersThrough}
@@ -141,7 +142,7 @@ module _ (d : Device) (l : Lent) where
 
   -- a call on the receive channel that is lent nothing, or not refused
   unlent : (v : Borrows) (c : Bool) (a b : Inbox.Outcome) → Blind v (lifted a d) → Blind v (lifted b d)
-      → Blind v (refuses 2 d) → Blind v (received (pick c a b) d)
+      → Blind v (refuses 2 d) → Blind v (onReceiving (pick c a b) d)
   unlent v c a b x y z = both (λ o. whole v l o) (goodSend (d .send)) (either v c a b x y) z
 
   -- a change of the filter

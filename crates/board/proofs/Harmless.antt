@@ -8,13 +8,12 @@ use lib.ListN.{length}
 use Rattle.common.proofs.Choices.{pick-is}
 use Rattle.common.specs.Refusals.{isRefusal}
 use Rattle.recorder.specs.Outcomes.{Lent, Outcome}
-use Rattle.recorder.specs.Receiving.{opened}
+use Rattle.recorder.specs.Opening.{opened}
 use Rattle.model.specs.Box.{Call}
 use Rattle.promises.proofs.Harmless as Calls
 use Rattle.kept.specs.State.{stateSize, deviceIn, isState}
 use Rattle.settings.specs.Given.{settingsSize, settingsIn}
-use Rattle.board.specs.Board.{borrowed, lentTo, handsBack, on, called, openedOn}
-use Rattle.board.specs.Board.{Unchanged}
+use Rattle.board.specs.Board.{borrowed, lentTo, handsBack, on, called, openedOn, Unchanged}
 use Rattle.board.proofs.Ways.{hands-back}
 
 -- a refused outcome leaves what was lent

@@ -22,7 +22,8 @@ use Rattle.inbox.proofs.Laws.{look-free, ready-fits}
 use Rattle.buffer.specs.Channel.{goodSend}
 use Rattle.recorder.specs.State.{good}
 use Rattle.recorder.specs.Outcomes.{Lent, lends, Outcome}
-use Rattle.recorder.specs.Receiving.{opened, lookSaid}
+use Rattle.recorder.specs.Opening.{opened}
+use Rattle.recorder.specs.Receiving.{lookSaid}
 use Rattle.recorder.specs.declared.Device.{Device}
 use Rattle.model.specs.Said.{Said}
 use Rattle.model.specs.Inbox.{Inbox, look}

@@ -29,8 +29,9 @@ use Rattle.outbox.specs.Calls as Outbox
 use Rattle.recorder.specs.State.{good, fresh, noDevice, withReceive}
 use Rattle.recorder.specs.Outcomes.{Lent, Outcome, lends, refuses, answerOf, recordOf, throughOf, QueueMet, SendMet}
 use Rattle.recorder.specs.Outcomes.{OutMet, TakeMet, PrintMet, withQueue, withTable}
-use Rattle.recorder.specs.Receiving.{opened, raised, raisedOn, recordRead, textRead, lookSaid, through}
-use Rattle.recorder.specs.Sending.{carrying, taken, aborted}
+use Rattle.recorder.specs.Opening.{opened}
+use Rattle.recorder.specs.Receiving.{raised, raisedOn, recordRead, textRead, lookSaid, through}
+use Rattle.recorder.specs.Register.{carrying, taken, aborted}
 use Rattle.recorder.specs.Printing.{linePrinted}
 use Rattle.recorder.specs.declared.Device.{Device}
 use Rattle.recorder.specs.declared.Answer.{Answer}
@@ -48,8 +49,8 @@ use Rattle.kept.proofs.RoundTrip.{state-back}
 use Rattle.kept.proofs.Judged.{possible-state, possible-good, impossible-good, good-send, raise-impossible}
 use Rattle.kept.proofs.Moves.{Counts, raise-moves, counted-left}
 use Rattle.board.specs.Board.{Borrows, borrowed, lentTo, handsBack, whole, on, called, Called, CalledWith}
-use Rattle.settings.specs.Given.{settingsSize, settingsIn}
 use Rattle.board.specs.Board.{openedOn}
+use Rattle.settings.specs.Given.{settingsSize, settingsIn}
 
 -- a choice has what both its arms have
 both : {A : Type 0} (P : A → Type 0) (b : Bool) (x y : A) → P x → P y → P (pick b x y)

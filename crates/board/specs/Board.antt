@@ -9,7 +9,7 @@ use Rattle.common.specs.Choice.{pick}
 use Rattle.settings.specs.Given.{settingsSize, settingsIn}
 use Rattle.recorder.specs.State.{noDevice}
 use Rattle.recorder.specs.Outcomes.{Lent, Outcome, lends, ends, refuses}
-use Rattle.recorder.specs.Receiving.{opened}
+use Rattle.recorder.specs.Opening.{opened}
 use Rattle.recorder.specs.declared.Device.{Device}
 use Rattle.model.specs.Inbox.{ReceiveCall, readRecord, readText, look, setFilter, setEventMask, identifiersThrough}
 use Rattle.model.specs.Outbox.{SendCall, send, sendText, take, done, abort}

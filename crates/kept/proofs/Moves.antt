@@ -24,7 +24,7 @@ use Rattle.outbox.specs.declared.Raised.{Raised}
 use Rattle.buffer.specs.declared.Send.{Send}
 use Rattle.recorder.specs.Outcomes.{Lent, Outcome, answerOf, recordOf, takenOf}
 use Rattle.recorder.specs.Receiving.{raised, recordRead, textRead}
-use Rattle.recorder.specs.Sending.{carriedOver, carrying, taken, finished, aborted}
+use Rattle.recorder.specs.Register.{carriedOver, carrying, taken, finished, aborted}
 use Rattle.recorder.specs.declared.Device.{Device}
 use Rattle.recorder.specs.declared.Answer.{Answer}
 use Rattle.recorder.specs.declared.Record.{Record}

@@ -14,7 +14,7 @@ use Rattle.common.proofs.Lists.{copy-more}
 use Rattle.digits.specs.Reading.{capped}
 use Rattle.digits.proofs.Capped.{capped-ltb}
 use Rattle.message_text.specs.Reading.{allBytes}
-use Rattle.message_text.proofs.Ends.{here}
+use Rattle.numbers.proofs.Ends.{here}
 
 -- ---- bytes from a position on
 

@@ -15,9 +15,9 @@ use Rattle.ids.proofs.Frames.{carried-le}
 use Rattle.digits.specs.Reading.{capped}
 use Rattle.digits.proofs.Capped.{ltb-capped}
 use Rattle.message_text.specs.Reading.{parsedHeader, allBytes, judgedData, judged, readMessage}
-use Rattle.message_text.specs.Numbers.{numbers, beforeEnd, usedOf}
-use Rattle.message_text.specs.Scan.{keptFrom, keptOf}
-use Rattle.message_text.specs.declared.Kept.{Kept}
+use Rattle.numbers.specs.Numbers.{numbers, beforeEnd, usedOf}
+use Rattle.numbers.specs.Scan.{keptFrom, keptOf}
+use Rattle.numbers.specs.declared.Kept.{Kept}
 use Rattle.message_text.specs.declared.Said.{Said}
 use Rattle.message_text.specs.declared.Answer.the-variants.{Taken}
 use Rattle.message_text.proofs.Ids.{raw-capped}

@@ -1,5 +1,3 @@
-pub mod Ends
-pub mod Keeping
 pub mod Ids
 pub mod Data
 pub mod Judging

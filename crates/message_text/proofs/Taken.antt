@@ -14,7 +14,7 @@ use Rattle.ids.specs.Frames.{headerRefusal, carried}
 use Rattle.ids.specs.declared.Header.{Header}
 use Rattle.ids.proofs.Frames.{carried-le}
 use Rattle.messages.specs.Records.{goodMessage}
-use Rattle.message_text.specs.Numbers.{numbers}
+use Rattle.numbers.specs.Numbers.{numbers}
 use Rattle.message_text.specs.Reading.{parsedHeader, dataOf, readMessage}
 use Rattle.message_text.specs.declared.Answer.{Answer}
 use Rattle.message_text.specs.declared.Answer.the-variants.{Taken, Refused}

@@ -1,4 +1,2 @@
-pub mod Numbers
-pub mod Scan
 pub mod Reading
 pub mod Printing

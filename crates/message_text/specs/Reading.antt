@@ -8,7 +8,7 @@ use Rattle.common.specs.Choice.{pick}
 use Rattle.ids.specs.Ids.{rawOf, isBad, idNumber}
 use Rattle.ids.specs.Frames.{carried}
 use Rattle.ids.specs.declared.Header.{Header}
-use Rattle.message_text.specs.Numbers.{numbers, beforeEnd, usedOf}
+use Rattle.numbers.specs.Numbers.{numbers, beforeEnd, usedOf}
 use Rattle.message_text.specs.declared.Said.{Said}
 use Rattle.message_text.specs.declared.Answer.{Answer}
 use Rattle.message_text.specs.declared.Answer.the-variants.{Taken, Refused}

@@ -1,7 +1,6 @@
 // Message text: read, and printed.
 pub mod printing;
 pub mod reading;
-mod scanning;
 
 use ids::Header;
 
@@ -15,16 +14,4 @@ pub enum Answer {
 pub struct Said {
     pub answer: Answer,
     pub bytes: [u8; 8],
-}
-
-// The first eleven numbers of a text, each at most 2 ^ 32, and how many there are, at most 12.
-pub struct Kept {
-    pub count: usize,
-    pub at: [u64; 11],
-}
-
-// The numbers kept, and where the scan stopped: no end stands before.
-pub struct Scanned {
-    pub kept: Kept,
-    pub stop: usize,
 }

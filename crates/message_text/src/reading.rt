@@ -1,10 +1,10 @@
 // What a message text says.
 use crate::Answer;
-use crate::Kept;
 use crate::Said;
-use crate::scanning;
 use ids::Header;
 use ids::Id;
+use numbers::Kept;
+use numbers::scanning;
 ghost use mathlib.Core.Path.{_≡_};
 ghost use mathlib.Core.Bool.{true};
 ghost use mathlib.Core.List.{_++_};

@@ -21,7 +21,7 @@ use Rattle.events.specs.Records.{isEvent, eventIn}
 use Rattle.events.specs.Raised.{frameRefusal}
 use Rattle.events.specs.declared.Event.{Event}
 use Rattle.messages.specs.declared.Message.{Message}
-use Rattle.message_text.specs.Numbers.{usedOf}
+use Rattle.numbers.specs.Numbers.{usedOf}
 use Rattle.message_text.specs.Printing.{messageRoom, messageLine, messageRefusal, messageRecordRefusal}
 use Rattle.message_text.specs.Reading.{refused}
 use Rattle.message_text.proofs.Cases.{read-is}
@@ -35,7 +35,7 @@ use Rattle.model.specs.Inbox.{identifiersThrough, Received, takesOldest,
 use Rattle.model.specs.Outbox.{SendCall, send, sendText, take, done, abort, Posted, posted, put, putText, takes}
 use Rattle.model.specs.Outbox.{takesInto, finishes, posts}
 use Rattle.model.specs.Box.{Box, box, Step, steps, DeviceCall, raise, setMode, setFormat, noted, changes, does}
-use Rattle.model.specs.Box.{PrintCall, printMessageRecord, printEventRecord, printMessage, printed, shows, Call}
+use Rattle.model.specs.Box.{PrintCall, printMessageRecord, printEventRecord, printMessage, lineSaid, shows, Call}
 use Rattle.model.specs.Box.{onDevice, onReceive, onSend, onAlign, step}
 use Rattle.model.specs.Listed.{usual, beside, Untouched}
 use Rattle.model.proofs.Choices.{either}
@@ -210,7 +210,7 @@ module _ (i room : ℕ) (b : Box) where
 
   -- a line is printed, or its refusal answered: room, then the Align, then n
   line-sound : (ns : List ℕ) (need n : ℕ) (line : List ℕ) → among 0 ns ≡ true → among 3 ns ≡ true → Other ns n
-      → Answered ns (printed (pick (ltb room need) 3 (pick (leb (b .shared .align) 3) n 1)) line)
+      → Answered ns (lineSaid (pick (ltb room need) 3 (pick (leb (b .shared .align) 3) n 1)) line)
   unfolding isRefusal
   line-sound ns need n line success three h =
       let r : ℕ = pick (ltb room need) 3 (pick (leb (b .shared .align) 3) n 1) in

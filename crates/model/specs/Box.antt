@@ -93,14 +93,14 @@ pub data PrintCall : Type 0 where
   printMessage : Message → PrintCall
 
 -- a line, or its refusal
-abbrev pub printed : ℕ → List ℕ → Said
-printed n line = pick (eqb n 0) (prints line) (says n)
+abbrev pub lineSaid : ℕ → List ℕ → Said
+lineSaid n line = pick (eqb n 0) (prints line) (says n)
 
 -- into an output buffer of so much room
 unfoldable pub shows : PrintCall → (room : ℕ) → (align : ℕ) → Said
-shows (printMessageRecord s) room align = printed (messageRecordRefusal align s room) (messageLine align (messageIn s))
-shows (printEventRecord s) room align = printed (eventRecordRefusal align s room) (eventLine align (eventIn s))
-shows (printMessage m) room align = printed (messageRefusal align m room) (messageLine align m)
+shows (printMessageRecord s) room align = lineSaid (messageRecordRefusal align s room) (messageLine align (messageIn s))
+shows (printEventRecord s) room align = lineSaid (eventRecordRefusal align s room) (eventLine align (eventIn s))
+shows (printMessage m) room align = lineSaid (messageRefusal align m room) (messageLine align m)
 
 -- ---- every call
 

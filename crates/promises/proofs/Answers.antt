@@ -19,7 +19,7 @@ use Rattle.settings.specs.declared.Settings.{Settings}
 use Rattle.settings.specs.declared.Shared.{Shared}
 use Rattle.queue.specs.Channel.{queueLimit}
 use Rattle.recorder.specs.Outcomes.{Lent, lends, Outcome}
-use Rattle.recorder.specs.Receiving.{opened}
+use Rattle.recorder.specs.Opening.{opened}
 use Rattle.recorder.specs.declared.Device.{Device}
 use Rattle.model.specs.Said.{Said, says, saysZeros, hands, prints}
 use Rattle.model.specs.Inbox.{Kept, Inbox, Met, arrival, ReceiveCall, readRecord, readText, look, setFilter}

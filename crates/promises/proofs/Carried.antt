@@ -14,7 +14,7 @@ use Rattle.events.proofs.RoundTrip.{lost-back, apart-lost}
 use Rattle.settings.specs.Ranges.{goodShared}
 use Rattle.settings.specs.declared.Settings.{Settings}
 use Rattle.recorder.specs.Outcomes.{Lent}
-use Rattle.recorder.specs.Receiving.{opened}
+use Rattle.recorder.specs.Opening.{opened}
 use Rattle.model.specs.Inbox.{Kept, keeps, Inbox}
 use Rattle.model.specs.Outbox.{Outbox}
 use Rattle.model.specs.Box.{Box, fresh}

@@ -20,14 +20,15 @@ use Rattle.inbox.specs.Calls as Queue
 use Rattle.buffer.specs.Channel.{goodSend}
 use Rattle.recorder.specs.State.{good, withShared}
 use Rattle.recorder.specs.Outcomes.{Lent, lends, ends}
-use Rattle.recorder.specs.Receiving.{raised, changed}
+use Rattle.recorder.specs.Receiving.{raised}
+use Rattle.recorder.specs.Changes.{changed}
 use Rattle.recorder.specs.Printing.{linePrinted}
 use Rattle.recorder.specs.declared.Device.{Device}
 use Rattle.model.specs.Said.{says}
 use Rattle.model.specs.Inbox.{Inbox}
 use Rattle.model.specs.Outbox.{Outbox}
 use Rattle.model.specs.Box.{box, steps, DeviceCall, raise, setMode, setFormat, changes, does, PrintCall}
-use Rattle.model.specs.Box.{printMessageRecord, printEventRecord, printMessage, printed, shows, Call, onDevice}
+use Rattle.model.specs.Box.{printMessageRecord, printEventRecord, printMessage, lineSaid, shows, Call, onDevice}
 use Rattle.model.specs.Box.{onAlign, step}
 use Rattle.promises.specs.Typed.{Word, TypedDevice}
 use Rattle.promises.specs.Calls.{outcome}
@@ -94,7 +95,7 @@ module _ (d : Device) (q t out : List ℕ) (i : ℕ) (b : Inbox) (o : Outbox) (h
 
   -- a line, or its refusal
   print-is : (n : ℕ) (line : List ℕ)
-      → Agrees (linePrinted n line d l) out (steps (printed n line) (box (d .shared) b o))
+      → Agrees (linePrinted n line d l) out (steps (lineSaid n line) (box (d .shared) b o))
   unfolding linePrinted
   print-is n line =
       rw possible (by-test (eqb n 0) (λ z. rw z (told _ _ _ _ _, h)) (λ z. rw z (told (says n) d q t out, h)))

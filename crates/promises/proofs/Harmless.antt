@@ -35,7 +35,7 @@ use Rattle.outbox.specs.Refusals.{possible, putRefusal, waitRefusal, takeRefusa
 use Rattle.outbox.specs.Refusals as Refusals
 use Rattle.outbox.specs.Calls as Wire
 use Rattle.message_text.specs.Printing.{messageRoom, messageRefusal, messageRecordRefusal}
-use Rattle.message_text.specs.Numbers.{usedOf}
+use Rattle.numbers.specs.Numbers.{usedOf}
 use Rattle.message_text.proofs.Cases.{read-is}
 use Rattle.event_text.specs.Lines.{eventRoom, eventLine, eventRecordRefusal}
 use Rattle.recorder.specs.State.{good, fresh, noDevice, withShared, withReceive}
@@ -43,10 +43,12 @@ use Rattle.settings.specs.Ranges.{goodShared, formatOf}
 use Rattle.settings.specs.Binary.{binaryRefusal}
 use Rattle.recorder.specs.Outcomes.{Lent, Outcome, ends, refuses, queueReady, noted, withQueue}
 use Rattle.common.specs.Refusals.{isRefusal}
-use Rattle.recorder.specs.Receiving.{opened, changed, filterSet, eventMaskSet, raised, recordRead, textRead, lookSaid}
-use Rattle.recorder.specs.Receiving.{through}
+use Rattle.recorder.specs.Opening.{opened}
+use Rattle.recorder.specs.Changes.{changed, filterSet, eventMaskSet}
+use Rattle.recorder.specs.Receiving.{raised, recordRead, textRead, lookSaid, through}
 use Rattle.recorder.specs.Receiving as Received
-use Rattle.recorder.specs.Sending.{lifted, carriedOver, carrying, sent, textSent, taken, finished, aborted}
+use Rattle.recorder.specs.Sending.{lifted, sent, textSent}
+use Rattle.recorder.specs.Register.{carriedOver, carrying, taken, finished, aborted}
 use Rattle.recorder.specs.Printing.{linePrinted, messageRecordPrinted, eventRecordPrinted, messagePrinted}
 use Rattle.recorder.specs.declared.Device.{Device}
 use Rattle.settings.specs.declared.Shared.{Shared}
@@ -164,7 +166,7 @@ module _ (d : Device) (l : Lent) where
   -- and likewise on a device: 2 where the send channel is not possible
   receive-fine : (ns : List ℕ) (n : ℕ) (o : Queue.Outcome) → among 2 ns ≡ true → Other ns n
       → H ns d l (Received.lifted o d l)
-      → H ns d l (Received.received (Queue.settled n [] (d .receive) o) d l)
+      → H ns d l (Received.onReceiving (Queue.settled n [] (d .receive) o) d l)
   receive-fine ns n o two h p =
       both (H ns d l) (goodSend (d .send)) _ _ (by-received ns n [] o h p (λ e. refused ns d l n e))
       (refused ns d l 2 two)
@@ -184,7 +186,7 @@ module _ (d : Device) (l : Lent) where
       let line = eventLine (d .shared .align) (eventIn (slotAt (d .receive) (l .queue) 0)) in
       let own = oldestRefusal (d .receive) (l .queue) in
       receive-fine ns (textRefusal (d .shared) (d .receive) (l .queue) (length (l .out)))
-      (Queue.prints (d .receive) line) refl
+      (Queue.printsOldest (d .receive) line) refl
       (both (Other ns) (ready (d .shared) (d .receive) (length (l .queue))) (pick (ltb (length (l .out)) 80) 3 own) 2
       (both (Other ns) (ltb (length (l .out)) 80) 3 own (λ e. refl) (oldest-number ns refl refl)) (λ e. refl))
       (succeeds ns d l _ _ _ _ refl)

@@ -17,7 +17,7 @@ use Rattle.queue.specs.Channel.{queueLimit, goodReceive, queueFits}
 use Rattle.buffer.specs.Channel.{sendLimit, goodSend, sendFits}
 use Rattle.recorder.specs.State.{good, fresh, noDevice}
 use Rattle.recorder.specs.Outcomes.{Lent, ends, refuses}
-use Rattle.recorder.specs.Receiving.{opened}
+use Rattle.recorder.specs.Opening.{opened}
 use Rattle.recorder.specs.declared.Device.{Device}
 use Rattle.model.specs.Box as Model
 use Rattle.promises.specs.Typed.{TypedSettings}

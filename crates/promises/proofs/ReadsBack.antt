@@ -29,7 +29,7 @@ use Rattle.outbox.specs.Refusals.{possible, ready, putRefusal}
 use Rattle.outbox.specs.Calls as Outbox
 use Rattle.recorder.specs.State.{good, withSend}
 use Rattle.recorder.specs.Outcomes.{Lent, ends, sendReady, withTable, withOut}
-use Rattle.recorder.specs.Receiving.{opened}
+use Rattle.recorder.specs.Opening.{opened}
 use Rattle.recorder.specs.Sending.{textSent}
 use Rattle.recorder.specs.Printing.{linePrinted}
 use Rattle.recorder.specs.declared.Device.{Device}

@@ -27,7 +27,8 @@ use Rattle.queue.specs.declared.Receive.{Receive}
 use Rattle.recorder.specs.State.{good, withReceive}
 use Rattle.recorder.specs.Outcomes.{Lent, lends, ends}
 use Rattle.buffer.specs.Channel.{goodSend}
-use Rattle.recorder.specs.Receiving.{lifted, filterSet, eventMaskSet, recordRead, textRead, lookSaid, through}
+use Rattle.recorder.specs.Receiving.{lifted, recordRead, textRead, lookSaid, through}
+use Rattle.recorder.specs.Changes.{filterSet, eventMaskSet}
 use Rattle.recorder.specs.declared.Device.{Device}
 use Rattle.model.specs.Said.{says, saysZeros, hands, prints}
 use Rattle.model.specs.Inbox.{Kept, Inbox, ReceiveCall, readRecord, readText, look, setFilter, setEventMask}
@@ -148,7 +149,7 @@ module _ (d : Device) (q t out : List ℕ) (i : ℕ) (b : Inbox) (o : Outbox) (h
 
       by : (ks : List Kept) → b .queue ≡ ks
           → Agrees
-          (lifted (Queue.settled (oldestRefusal (d .receive) q) [] (d .receive) (Queue.prints (d .receive) line)) d l)
+          (lifted (Queue.settled (oldestRefusal (d .receive) q) [] (d .receive) (Queue.printsOldest (d .receive) line)) d l)
           out (Taken d o (takesOldest (says 4) (λ (e : Event). prints (eventLine (d .shared .align) e)) ks b))
       by [] e = rw (nothing-read e) (told (says 4) d q t out, h)
       by (k ∷ rest) e =

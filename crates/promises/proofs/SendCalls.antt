@@ -15,7 +15,7 @@ use Rattle.messages.specs.Records.{messageSize, messageBytes, noMessage}
 use Rattle.events.specs.Raised.{eventOf}
 use Rattle.messages.specs.declared.Message.{Message}
 use Rattle.messages.proofs.RoundTrip.{message-bytes-length}
-use Rattle.message_text.specs.Numbers.{usedOf}
+use Rattle.numbers.specs.Numbers.{usedOf}
 use Rattle.message_text.specs.Reading.{readMessage}
 use Rattle.message_text.proofs.Cases.{read-is}
 use Rattle.message_text.proofs.Taken.{taken-good}
@@ -31,7 +31,8 @@ use Rattle.buffer.specs.declared.Send.{Send}
 use Rattle.recorder.specs.State.{withSend}
 use Rattle.recorder.specs.Outcomes.{Lent, lends, ends}
 use Rattle.recorder.specs.Outcomes as Ended
-use Rattle.recorder.specs.Sending.{lifted, carriedOver, carrying, sent, textSent, taken, finished, aborted}
+use Rattle.recorder.specs.Sending.{lifted, sent, textSent}
+use Rattle.recorder.specs.Register.{carriedOver, carrying, taken, finished, aborted}
 use Rattle.recorder.specs.declared.Device.{Device}
 use Rattle.recorder.proofs.SendWays.{carries-as}
 use Rattle.model.specs.Said.{says, saysZeros, counts, hands}

@@ -35,7 +35,7 @@ use Rattle.buffer.specs.Channel.{goodSend}
 use Rattle.outbox.specs.Refusals.{possible, ready, putRefusal}
 use Rattle.outbox.specs.Calls as Outbox
 use Rattle.settings.specs.TxMode.{goodTx}
-use Rattle.message_text.specs.Numbers.{numbersFrom, beforeEnd, endRun}
+use Rattle.numbers.specs.Numbers.{numbersFrom, beforeEnd, endRun}
 use Rattle.message_text.specs.Reading.{allBytes, judgedData, judged, readMessage}
 use Rattle.message_text.specs.Printing.{messageRoom, messageText, messageLine, messageRefusal}
 use Rattle.event_text.specs.Words.{wordOf}
@@ -43,7 +43,8 @@ use Rattle.event_text.specs.Lines.{frameText, eventText, eventLine}
 use Rattle.recorder.specs.State.{good}
 use Rattle.settings.specs.Ranges.{goodShared, formatOf}
 use Rattle.recorder.specs.Outcomes.{Lent, lends, Outcome}
-use Rattle.recorder.specs.Receiving.{opened, raised, recordRead, textRead, through}
+use Rattle.recorder.specs.Opening.{opened}
+use Rattle.recorder.specs.Receiving.{raised, recordRead, textRead, through}
 use Rattle.recorder.specs.Sending.{textSent}
 use Rattle.recorder.specs.Printing.{linePrinted}
 use Rattle.settings.specs.declared.Settings.{Settings}

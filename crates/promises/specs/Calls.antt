@@ -9,16 +9,16 @@ use Rattle.common.specs.Refusals.{isRefusal}
 use Rattle.inbox.specs.Calls.{looked}
 use Rattle.recorder.specs.State.{good}
 use Rattle.recorder.specs.Outcomes.{Lent, Outcome, ends}
-use Rattle.recorder.specs.Receiving.{modeSet, formatSet, filterSet, eventMaskSet, raised}
-use Rattle.recorder.specs.Receiving.{recordRead, textRead, lookSaid, through}
-use Rattle.recorder.specs.Sending.{sent, textSent, taken, finished, aborted}
+use Rattle.recorder.specs.Changes.{modeSet, formatSet, filterSet, eventMaskSet}
+use Rattle.recorder.specs.Receiving.{raised, recordRead, textRead, lookSaid, through}
+use Rattle.recorder.specs.Sending.{sent, textSent}
+use Rattle.recorder.specs.Register.{taken, finished, aborted}
 use Rattle.recorder.specs.Printing.{messageRecordPrinted, eventRecordPrinted, messagePrinted}
 use Rattle.recorder.specs.declared.Device.{Device}
 use Rattle.model.specs.Inbox.{ReceiveCall, readRecord, readText, look, setFilter, setEventMask, identifiersThrough}
 use Rattle.model.specs.Outbox.{SendCall, send, sendText, take, done, abort}
-use Rattle.model.specs.Box.{DeviceCall, raise, setMode, setFormat}
-use Rattle.model.specs.Box.{PrintCall, printMessageRecord, printEventRecord, printMessage}
-use Rattle.model.specs.Box.{Call, onDevice, onReceive, onSend, onAlign}
+use Rattle.model.specs.Box.{DeviceCall, raise, setMode, setFormat, PrintCall, printMessageRecord, printEventRecord}
+use Rattle.model.specs.Box.{printMessage, Call, onDevice, onReceive, onSend, onAlign}
 use Rattle.model.specs.Listed.{listed, beside}
 
 abbrev pub deviceOutcome : DeviceCall → Device → Lent → Outcome

@@ -14,7 +14,8 @@ use Rattle.buffer.specs.Channel.{sendFits}
 use Rattle.buffer.specs.declared.Send.{Send}
 use Rattle.recorder.specs.State.{good, withReceive}
 use Rattle.recorder.specs.Outcomes.{Lent, Outcome, queueReady, sendReady, bothReady, withQueue}
-use Rattle.recorder.specs.Sending.{sent, textSent, taken, finished, aborted}
+use Rattle.recorder.specs.Sending.{sent, textSent}
+use Rattle.recorder.specs.Register.{taken, finished, aborted}
 use Rattle.recorder.specs.declared.Device.{Device}
 use Rattle.recorder.proofs.Ready.{receive-good, ready-usable}
 

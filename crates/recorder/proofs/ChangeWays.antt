@@ -12,8 +12,8 @@ use Rattle.queue.specs.Recording.{RaiseMet, unfiltered}
 use Rattle.queue.specs.declared.Receive.{Receive}
 use Rattle.inbox.proofs.Laws.{no-filter}
 use Rattle.recorder.specs.State.{withShared, withReceive}
-use Rattle.recorder.specs.Outcomes.{Lent, ends, refuses, queueReady, withQueue, met, answers, QueueMet}
-use Rattle.recorder.specs.Receiving.{changed}
+use Rattle.recorder.specs.Outcomes.{Lent, ends, refuses, queueReady, withQueue, met, answerWith, QueueMet}
+use Rattle.recorder.specs.Changes.{changed}
 use Rattle.recorder.specs.declared.Device.{Device}
 use Rattle.recorder.specs.declared.Answer.{Answer}
 use Rattle.recorder.proofs.Meeting.{noted-ends}
@@ -40,7 +40,7 @@ module _ (s : Shared) (tick : ℕ) (d : Device) (l : Lent) where
   pub change-met : queueReady d l ≡ true → goodShared s ≡ true → {n : ℕ} {q : List ℕ} {r : Receive} {a : Answer}
       → RaiseMet (unfiltered (d .receive) (eventOf 5 tick noMessage) (l .queue)) n q
       → r ≡ unfiltered (d .receive) (eventOf 5 tick noMessage) (l .queue) .receive
-      → a ≡ answers 0 0 (withReceive (withShared d s) r) → QueueMet (changed s tick d l) a q
+      → a ≡ answerWith 0 0 (withReceive (withShared d s) r) → QueueMet (changed s tick d l) a q
   change-met g h m e p =
       let same = no-filter s (d .receive) (eventOf 5 tick noMessage) (l .queue)
       (other-code 5 tick noMessage (λ x. omega arith)) in

@@ -8,7 +8,7 @@ use Rattle.queue.specs.Channel.{queueFits}
 use Rattle.buffer.specs.Channel.{sendFits}
 use Rattle.recorder.specs.State.{good, fresh, noDevice}
 use Rattle.recorder.specs.Outcomes.{Lent, ends, refuses}
-use Rattle.recorder.specs.Receiving.{opened}
+use Rattle.recorder.specs.Opening.{opened}
 
 -- open: open-bad answers 1, open-short and open-short-send (the message table) answer 2, open-good opens
 module _ (s : Settings) (l : Lent) where

@@ -21,8 +21,9 @@ use Rattle.outbox.specs.declared.Sent.{Sent}
 use Rattle.outbox.specs.declared.Taken.{Taken as TakenOut}
 use Rattle.outbox.specs.declared.Emptied.{Emptied}
 use Rattle.recorder.specs.State.{withReceive, withSend}
-use Rattle.recorder.specs.Outcomes.{Lent, Outcome, noted, answers, takes, QueueMet, SendMet, TakeMet}
-use Rattle.recorder.specs.Sending.{lifted, carriedOver, carriedPast, EmptiedMet, carrying}
+use Rattle.recorder.specs.Outcomes.{Lent, Outcome, noted, answerWith, takenWith, QueueMet, SendMet, TakeMet}
+use Rattle.recorder.specs.Sending.{lifted}
+use Rattle.recorder.specs.Register.{carriedOver, carriedPast, EmptiedMet, carrying}
 use Rattle.recorder.specs.declared.Device.{Device}
 use Rattle.recorder.specs.declared.Answer.{Answer}
 use Rattle.recorder.proofs.Ready.{other-code}
@@ -46,7 +47,7 @@ module _ (e : Raised) (r : Receive) (q : List ℕ) where
 module _ (o : Outbox.Outcome) (d : Device) (l : Lent) (w : Outcome) (ok : Bool) (z : ok ≡ true) where
   pub lifted-met : (s : Sent) (t : List ℕ) → Outbox.WriteMet o s t → {n : Device} → n ≡ withSend d (s .send)
       → {r : Answer}
-      → r ≡ answers (s .number) (s .value) n → SendMet (pick ok (lifted o d l) w) r t
+      → r ≡ answerWith (s .number) (s .value) n → SendMet (pick ok (lifted o d l) w) r t
   lifted-met s t m e a = rw z (record { answer = a ∙ rw (e, m .answer); send-bytes = m .table })
 
   module _ (other : o .raised .code ≡ 1 → ⊥) where
@@ -62,7 +63,7 @@ module _ (o : Outbox.Outcome) (d : Device) (l : Lent) (w : Outcome) (ok : Bool) 
     pub taken-met : (s : TakenOut) → s ≡ Outbox.takenOf o → {a : Device} {q : List ℕ}
         → a ≡ withReceive (withSend d (s .send)) (carriedPast (s .raised) (d .receive) (l .queue) .receive)
         → q ≡ carriedPast (s .raised) (d .receive) (l .queue) .table
-        → TakeMet (pick ok (carrying o d l) w) (takes (s .number) (s .bytes) a) q
+        → TakeMet (pick ok (carrying o d l) w) (takenWith (s .number) (s .bytes) a) q
     taken-met s m e t = rw z (record { answer = rw (e, m, past); queue-bytes = t ∙ rw (m, past) })
 
 -- an event that the outbox raises where a test holds is one raised beside the answer

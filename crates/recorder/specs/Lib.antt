@@ -1,5 +1,8 @@
 pub mod State
 pub mod Outcomes
+pub mod Opening
 pub mod Receiving
+pub mod Changes
 pub mod Sending
+pub mod Register
 pub mod Printing

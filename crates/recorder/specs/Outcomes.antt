@@ -74,20 +74,20 @@ noted e o =
     ends (o .number) (o .value) (o .bytes) (withReceive (o .device) (r .receive)) (withQueue (o .lent) (r .table))
 
 -- the answer of an outcome, as the code returns it
-abbrev pub answers : ℕ → ℕ → Device → Answer
-answers n v d = record { number = n; value = v; device = d }
+abbrev pub answerWith : ℕ → ℕ → Device → Answer
+answerWith n v d = record { number = n; value = v; device = d }
 
 abbrev pub answerOf : Outcome → Answer
-answerOf o = answers (o .number) (o .value) (o .device)
+answerOf o = answerWith (o .number) (o .value) (o .device)
 
 abbrev pub recordOf : Outcome → Record
 recordOf o = record { number = o .number; bytes = o .bytes; device = o .device }
 
-abbrev pub takes : ℕ → List ℕ → Device → Taken
-takes n b d = record { number = n; bytes = b; device = d }
+abbrev pub takenWith : ℕ → List ℕ → Device → Taken
+takenWith n b d = record { number = n; bytes = b; device = d }
 
 abbrev pub takenOf : Outcome → Taken
-takenOf o = takes (o .number) (o .bytes) (o .device)
+takenOf o = takenWith (o .number) (o .bytes) (o .device)
 
 abbrev pub throughOf : Outcome → Through
 throughOf o = record { number = o .number; count = o .value }

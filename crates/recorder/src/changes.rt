@@ -6,7 +6,7 @@ use settings::Shared;
 ghost use mathlib.Core.Path.{_≡_};
 ghost use mathlib.Core.List.{[]};
 ghost use Rattle.recorder.specs.Outcomes.{lends, answerOf, QueueMet};
-ghost use Rattle.recorder.specs.Receiving.{changed, modeSet, formatSet, filterSet, eventMaskSet};
+ghost use Rattle.recorder.specs.Changes.{changed, modeSet, formatSet, filterSet, eventMaskSet};
 
 // Sets mode, format and Align anew, and raises code 5.
 fn change(d: Device, s: Shared, tick: u32, queue: &mut [u8]) -> Answer

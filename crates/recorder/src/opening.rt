@@ -12,7 +12,7 @@ ghost use mathlib.Core.Path.{_≡_};
 ghost use mathlib.Core.List.{[]};
 ghost use Rattle.recorder.specs.State.{fresh, noDevice};
 ghost use Rattle.recorder.specs.Outcomes.{lends, answerOf};
-ghost use Rattle.recorder.specs.Receiving.{opened};
+ghost use Rattle.recorder.specs.Opening.{opened};
 
 fn fresh_receive(s: Settings) -> Receive
     ensures { λ r. ⌜ r ≡ fresh s .receive ⌝ }

@@ -14,7 +14,7 @@ ghost use mathlib.Core.List.{[]};
 ghost use Rattle.queue.specs.Channel.{usable};
 ghost use Rattle.queue.specs.Recording.{RaiseMet};
 ghost use Rattle.recorder.specs.Outcomes.{lends, QueueMet, TakeMet};
-ghost use Rattle.recorder.specs.Sending.{carriedPast, EmptiedMet, taken, finished, aborted};
+ghost use Rattle.recorder.specs.Register.{carriedPast, EmptiedMet, taken, finished, aborted};
 
 // Carries the event that a call raised, if any (code 0 is none), to the queue; only code 1 would meet the filter.
 fn carry(r: Receive, e: Raised, queue: &mut [u8]) -> u32

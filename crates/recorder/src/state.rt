@@ -8,7 +8,7 @@ ghost use mathlib.Core.Path.{_≡_};
 ghost use mathlib.Core.Bool.{_&&_};
 ghost use Rattle.queue.specs.Channel.{goodReceive, queueFits};
 ghost use Rattle.recorder.specs.State.{good, withShared, withReceive, withSend};
-ghost use Rattle.recorder.specs.Outcomes.{answers};
+ghost use Rattle.recorder.specs.Outcomes.{answerWith};
 
 // Settings and state numbers that a device can have.
 pub fn is_good(d: Device) -> bool
@@ -98,7 +98,7 @@ pub fn with_channels(d: Device, r: Receive, s: Send) -> Device
 
 // The answer of a call.
 pub fn answer(number: u32, value: usize, d: Device) -> Answer
-    ensures { λ r. ⌜ r ≡ answers number value d ⌝ }
+    ensures { λ r. ⌜ r ≡ answerWith number value d ⌝ }
 {
     Answer {
         number: number,

@@ -11,13 +11,13 @@ use Rattle.digits.specs.Digits.{hex, decimal}
 use Rattle.digits.specs.Written.{Put}
 use Rattle.digits.proofs.Written.{sets-append, printed}
 use Rattle.digits.proofs.Lengths.{hex-length, decimal-length-le}
-use Rattle.show.specs.Lines.{pairs, refusedLine, Holds}
+use Rattle.show.specs.Lines.{pairs, refusedLine, LineHeld}
 use Rattle.show.specs.declared.Line.{Line}
 
 -- a line written from the front on is held
 pub held :
     {o m xs : List ℕ} {p : ℕ} → Put o 0 xs m p → length xs ≤ length o
-    → Holds xs (record { bytes = m; length = p })
+    → LineHeld xs (record { bytes = m; length = p })
 held {o} {m} {xs} {p} s h =
     let e = printed s h in
     record { length = e .1; bytes = rw (e .0) (take-at xs (drop (length xs) o) p (sym (e .1))) }

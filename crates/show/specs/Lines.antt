@@ -21,6 +21,6 @@ abbrev pub refusedLine : ℕ → ℕ → List ℕ
 refusedLine number used = ascii "refused " ++ decimal number ++ ascii " used " ++ decimal used ++ 10 ∷ []
 
 -- the line stands at the front of the buffer, and its length beside it
-pub record Holds (line : List ℕ) (r : Line) : Type 0 where
+pub record LineHeld (line : List ℕ) (r : Line) : Type 0 where
   pub length : r .length ≡ length line
   pub bytes : take (r .length) (r .bytes) ≡ line

@@ -4,7 +4,7 @@ pub mod words;
 use digits::writing;
 use libc::STDOUT_FILENO;
 ghost use mathlib.Core.Path.{_≡_};
-ghost use Rattle.show.specs.Lines.{Holds, recordLine, refusedLine};
+ghost use Rattle.show.specs.Lines.{LineHeld, recordLine, refusedLine};
 
 // A line, with zeros behind its length.
 pub struct Line {
@@ -20,7 +20,7 @@ fn wide(b: u8) -> u32
 
 // A message's 16 bytes as 32 digits, and LF.
 pub fn record_line(b: [u8; 16]) -> Line
-    ensures { λ r. ⌜ Holds (recordLine b) r ⌝ }
+    ensures { λ r. ⌜ LineHeld (recordLine b) r ⌝ }
 {
     let mut line = [0u8; 40];
     let mut i: usize = 0;
@@ -37,7 +37,7 @@ pub fn record_line(b: [u8; 16]) -> Line
 
 // The refusal and the bytes used, and LF.
 pub fn refused_line(number: u32, used: u32) -> Line
-    ensures { λ r. ⌜ Holds (refusedLine number used) r ⌝ }
+    ensures { λ r. ⌜ LineHeld (refusedLine number used) r ⌝ }
 {
     let mut line = [0u8; 40];
     let p = writing::put_text(&mut line, 0, b"refused ");

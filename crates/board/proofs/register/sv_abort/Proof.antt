@@ -1,7 +1,7 @@
 use mathlib.Core.List.{[]}
 use denote.Ref.{now}
 use Rattle.recorder.specs.Outcomes.{lends}
-use Rattle.recorder.specs.Sending.{aborted}
+use Rattle.recorder.specs.Register.{aborted}
 use Rattle.kept.proofs.Moves.{abort-moves, answer-transferred}
 use Rattle.board.proofs.Ways.{not-with, abort-called}
 use Rattle.kept.proofs.Laws.{state-long}

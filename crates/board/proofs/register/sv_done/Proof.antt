@@ -1,7 +1,7 @@
 use mathlib.Core.List.{[]}
 use denote.Ref.{now}
 use Rattle.recorder.specs.Outcomes.{lends}
-use Rattle.recorder.specs.Sending.{finished}
+use Rattle.recorder.specs.Register.{finished}
 use Rattle.promises.specs.Calls.{outcome}
 use Rattle.kept.proofs.Moves.{done-moves, answer-transferred}
 use Rattle.board.specs.Board.{borrowed}

@@ -1,7 +1,7 @@
 use mathlib.Core.List.{[]}
 use denote.Ref.{now}
 use Rattle.recorder.specs.Outcomes.{lends}
-use Rattle.recorder.specs.Sending.{taken}
+use Rattle.recorder.specs.Register.{taken}
 use Rattle.kept.proofs.Moves.{take-moves, taken-transferred}
 use Rattle.board.proofs.Ways.{not-with, take-called}
 use Rattle.kept.proofs.Laws.{state-long}

@@ -1,6 +1,6 @@
 use Rattle.ids.proofs.Bits.{one-shl}
 use mathlib.Core.Path.{_∙_}
-use Rattle.ids.specs.Filters.{isFilter, letThrough}
+use Rattle.ids.specs.Filters.{letThrough}
 use Rattle.ids.proofs.Fields.{filter-in-word, filter-active, free-small}
 use Rattle.common.proofs.Bools.{said, denied, and-left}
 use borrow.Author.Needs.{needs}

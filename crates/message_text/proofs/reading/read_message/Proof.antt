@@ -3,7 +3,7 @@ use native.Mathlib.Omega.{arith}
 use borrow.Author.Tests.{le-ltb}
 use denote.Ref.{now}
 use lib.ListN.{length}
-use Rattle.message_text.specs.Numbers.{beforeEnd}
+use Rattle.numbers.specs.Numbers.{beforeEnd}
 use Rattle.message_text.specs.Reading.{readMessage}
 use Rattle.message_text.proofs.Judging.{text-judged}
 use borrow.Author.Needs.{needs}

@@ -3,7 +3,7 @@ use mathlib.Core.List.{[]}
 use Rattle.common.proofs.Bools.{said, denied}
 use Rattle.inbox.specs.Calls as Inbox
 use Rattle.recorder.specs.Outcomes.{lends}
-use Rattle.recorder.specs.Receiving.{filterSet}
+use Rattle.recorder.specs.Changes.{filterSet}
 use Rattle.recorder.proofs.ReceiveWays.{changed-met}
 use borrow.Author.Needs.{needs}
 use Rattle.recorder.proofs.changes.set_filter.Statement.{statement}

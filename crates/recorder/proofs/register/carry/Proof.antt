@@ -1,6 +1,6 @@
 use mathlib.Core.Path.{refl}
 use borrow.Author.Tests.{eq-eqb, ne-eqb}
-use Rattle.recorder.specs.Sending.{carriedPast}
+use Rattle.recorder.specs.Register.{carriedPast}
 use borrow.Author.Needs.{needs}
 use Rattle.recorder.proofs.register.carry.Statement.{statement}
 use Rattle.recorder.proofs.register.carry.Tie as tie

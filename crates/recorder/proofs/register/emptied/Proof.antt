@@ -3,7 +3,7 @@ use denote.Ref.{now}
 use Rattle.queue.specs.declared.Receive.{Receive}
 use Rattle.queue.proofs.Laws.{room-for, built}
 use Rattle.recorder.specs.State.{withReceive, withSend}
-use Rattle.recorder.specs.Outcomes.{answers}
+use Rattle.recorder.specs.Outcomes.{answerWith}
 use Rattle.recorder.proofs.SendWays.{carried-next}
 use borrow.Author.Needs.{needs}
 use Rattle.recorder.proofs.register.emptied.Statement.{statement}
@@ -22,7 +22,7 @@ returns c =
     (c .before .before .after-raise .ensures) in
     let d = withSend (a .d) (a .o .send) in
     record {
-      answer = c .answer .ensures ∙ ap (answers (a .o .number) (a .o .value))
+      answer = c .answer .ensures ∙ ap (answerWith (a .o .number) (a .o .value))
           (c .before .with-channels .ensures ∙ ap (withReceive d) next);
       queue-bytes = met .table;
     }

@@ -8,7 +8,7 @@ use Rattle.outbox.specs.Calls as Outbox
 use Rattle.outbox.proofs.Laws.{take-raises}
 use Rattle.recorder.specs.State.{withReceive, withSend}
 use Rattle.recorder.specs.Outcomes.{lends}
-use Rattle.recorder.specs.Sending.{taken}
+use Rattle.recorder.specs.Register.{taken}
 use Rattle.recorder.proofs.SendWays.{carried-next, taken-met}
 use borrow.Author.Needs.{needs}
 use Rattle.recorder.proofs.register.take.Statement.{statement}

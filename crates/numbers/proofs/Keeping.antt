@@ -7,12 +7,12 @@ use borrow.Author.Tests.{lt-ltb, le-ltb, ne-eqb}
 use lib.ListN.{length, getD, drop, set, replicate, length-set, drop-of-length-le}
 use lib.Seq.{sets, set-out}
 use Rattle.digits.specs.Reading.{byteKind, capped}
-use Rattle.message_text.specs.Numbers.{Place, between, within, ended, grown}
-use Rattle.message_text.specs.Numbers.{isEnd, isDigit, numbersFrom, numbers, beforeEnd}
-use Rattle.message_text.specs.Scan.{kept, keptMore, keptFrom, keptOf, ScanMet}
-use Rattle.message_text.specs.declared.Kept.{Kept}
+use Rattle.numbers.specs.Numbers.{Place, between, within, ended, grown}
+use Rattle.numbers.specs.Numbers.{isEnd, isDigit, numbersFrom, numbers, beforeEnd}
+use Rattle.numbers.specs.Scan.{kept, keptMore, keptFrom, keptOf, ScanMet}
+use Rattle.numbers.specs.declared.Kept.{Kept}
 use Rattle.common.proofs.Choices.{by-test}
-use Rattle.message_text.proofs.Ends.{here, before-more}
+use Rattle.numbers.proofs.Ends.{here, before-more}
 
 -- ---- the numbers from a position on
 

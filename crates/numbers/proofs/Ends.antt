@@ -7,7 +7,7 @@ use borrow.Author.Tests.{ne-eqb}
 use lib.ListN.{length, getD, drop, drop-of-length-le}
 use lib.Seq.{drop-cons}
 use Rattle.digits.specs.Reading.{byteKind}
-use Rattle.message_text.specs.Numbers.{beforeEnd, endRun}
+use Rattle.numbers.specs.Numbers.{beforeEnd, endRun}
 
 -- a list from a position on
 pub here : (t : List ℕ) (i : ℕ) → i < length t → drop i t ≡ getD t i 0 ∷ drop (i + 1) t

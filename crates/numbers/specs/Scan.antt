@@ -5,9 +5,9 @@ use mathlib.Core.List.{List, map}
 use lib.ListN.{length, drop, set, replicate}
 use lib.Seq.{sets}
 use Rattle.digits.specs.Reading.{capped}
-use Rattle.message_text.specs.Numbers.{numbers, beforeEnd}
-use Rattle.message_text.specs.declared.Kept.{Kept}
-use Rattle.message_text.specs.declared.Scanned.{Scanned}
+use Rattle.numbers.specs.Numbers.{numbers, beforeEnd}
+use Rattle.numbers.specs.declared.Kept.{Kept}
+use Rattle.numbers.specs.declared.Scanned.{Scanned}
 
 -- n numbers counted, and those that are kept of them
 abbrev pub kept : ℕ → List ℕ → Kept

@@ -1,9 +1,9 @@
 use borrow.Author.Needs.{needs}
 use denote.Ref.{now}
-use Rattle.message_text.specs.Scan.{kept}
-use Rattle.message_text.proofs.Keeping.{keep-counted, keep-stored}
-use Rattle.message_text.proofs.scanning.keep.Statement.{statement}
-use Rattle.message_text.proofs.scanning.keep.Tie as tie
+use Rattle.numbers.specs.Scan.{kept}
+use Rattle.numbers.proofs.Keeping.{keep-counted, keep-stored}
+use Rattle.numbers.proofs.scanning.keep.Statement.{statement}
+use Rattle.numbers.proofs.scanning.keep.Tie as tie
 
 returns : tie.Need-returns
 returns c = let a = c .before .args in keep-counted (kept (a .n) (now (a .at))) (a .v) (c .before .pre) (c .if1 .taken)

@@ -2,11 +2,11 @@
 use crate::Kept;
 use crate::Scanned;
 ghost use mathlib.Core.Path.{_≡_};
-ghost use Prim.Native.Nat.{_+_, _≤_};
+ghost use Prim.Native.Nat.{_+_};
 ghost use lib.ListN.{length, drop};
 ghost use Rattle.digits.specs.Reading.{capped};
-ghost use Rattle.message_text.specs.Numbers.{numbers, beforeEnd, endRun};
-ghost use Rattle.message_text.specs.Scan.{kept, keptMore, ScanMet};
+ghost use Rattle.numbers.specs.Numbers.{numbers, beforeEnd, endRun};
+ghost use Rattle.numbers.specs.Scan.{kept, keptMore, ScanMet};
 
 // The number v kept behind n others, and how many there are then; the twelfth is only counted.
 fn keep(at: &mut [u64; 11], n: usize, v: u64) -> usize
@@ -62,7 +62,6 @@ pub fn scan(text: &[u8]) -> Scanned
 
 // Where the first end from a position on stands, or the text's length.
 pub fn first_end(text: &[u8], from: usize) -> usize
-    requires { ⌜ from ≤ length (now text) ⌝ }
     ensures { λ r. ⌜ r ≡ from + beforeEnd (drop from (now (text .entry))) ⌝ }
 {
     let mut i = from;
@@ -77,7 +76,6 @@ pub fn first_end(text: &[u8], from: usize) -> usize
 
 // The position after the ends that stand in a row at a position.
 pub fn after_ends(text: &[u8], from: usize) -> usize
-    requires { ⌜ from ≤ length (now text) ⌝ }
     ensures { λ r. ⌜ r ≡ from + endRun (drop from (now (text .entry))) ⌝ }
 {
     let mut i = from;

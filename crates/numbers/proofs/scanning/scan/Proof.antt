@@ -5,12 +5,12 @@ use native.Mathlib.Omega.{arith}
 use borrow.Author.Needs.{needs}
 use denote.Ref.{now}
 use lib.ListN.{length}
-use Rattle.message_text.specs.Numbers.{between, within}
-use Rattle.message_text.specs.Scan.{kept, keptMore}
-use Rattle.message_text.proofs.Keeping.{Going, start, digit, separator, cut, whole-last}
-use Rattle.message_text.proofs.Keeping.{whole-end, whole-separator, met-last, met-end, met-full}
-use Rattle.message_text.proofs.scanning.scan.Statement.{statement}
-use Rattle.message_text.proofs.scanning.scan.Tie as tie
+use Rattle.numbers.specs.Numbers.{between, within}
+use Rattle.numbers.specs.Scan.{kept, keptMore}
+use Rattle.numbers.proofs.Keeping.{Going, start, digit, separator, cut, whole-last}
+use Rattle.numbers.proofs.Keeping.{whole-end, whole-separator, met-last, met-end, met-full}
+use Rattle.numbers.proofs.scanning.scan.Statement.{statement}
+use Rattle.numbers.proofs.scanning.scan.Tie as tie
 
 abbrev Inv-digits : tie.InvT-digits
 Inv-digits text at₀ n₀ i₀ k v₀ at n i v = Going text (within v) (kept n at) i × (i₀ ≤ i) × (n ≤ 11) × (v ≤ 2 ^ 32)
