@@ -26,7 +26,8 @@ static void raise(uint32_t code, uint32_t tick, uint32_t id, uint32_t dlc, const
 
 static void send_text(const char *text) {
     size_t used = 0;
-    uint32_t number = sv_send_text(state, sizeof state, (const uint8_t *)text, strlen(text), buffer, sizeof buffer, &used);
+    const uint8_t *bytes = (const uint8_t *)text;
+    uint32_t number = sv_send_text(state, sizeof state, bytes, strlen(text), buffer, sizeof buffer, &used);
     printf("%-24s %u used %u\n", "send_text", (unsigned)number, (unsigned)used);
 }
 
@@ -39,7 +40,8 @@ static void transmit(uint32_t tick) {
     say("take", number);
     if (number != 0) return;
     hex(message, sizeof message);
-    say("print_message_record", sv_print_message_record(state, sizeof state, message, sizeof message, text, sizeof text, &length));
+    number = sv_print_message_record(state, sizeof state, message, sizeof message, text, sizeof text, &length);
+    say("print_message_record", number);
     line(text, length);
     say("done", sv_done(state, sizeof state, tick + 1, queue, sizeof queue));
 }
@@ -59,7 +61,8 @@ static void drain(void) {
             say("read_record", number);
             if (number == 0) {
                 hex(event, sizeof event);
-                say("print_event_record", sv_print_event_record(state, sizeof state, event, sizeof event, text, sizeof text, &length));
+                number = sv_print_event_record(state, sizeof state, event, sizeof event, text, sizeof text, &length);
+                say("print_event_record", number);
             }
         }
         if (number != 0) return;

@@ -51,10 +51,11 @@ static void check(void) {
     unsigned queued = word(state + SV_AT_QUEUE_COUNT), pending = word(state + SV_AT_PENDING), waiting = 0;
     for (uint32_t p = 0; p < queued; p++) {
         size_t offset = 0;
-        if (sv_look(state, sizeof state, queue, sizeof queue, p, &offset) == 0) waiting += word(queue + offset + SV_AT_LOST);
+        if (sv_look(state, sizeof state, queue, sizeof queue, p, &offset) == 0)
+            waiting += word(queue + offset + SV_AT_LOST);
     }
-    printf("arrived %u: read %u + queued %u + lost %u + lost of queued %u + pending %u = %u\n", arrived, records, queued, lost,
-           waiting, pending, records + queued + lost + waiting + pending);
+    printf("arrived %u: read %u + queued %u + lost %u + lost of queued %u + pending %u = %u\n", arrived, records, queued,
+           lost, waiting, pending, records + queued + lost + waiting + pending);
 }
 
 int main(void) {

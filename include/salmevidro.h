@@ -5,9 +5,9 @@
  * lent as well, as pointer and length: SV_EVENT bytes for each event of the queue, SV_MESSAGE for each message of the
  * send buffer. There is no heap and no global state; blocking, timeouts and locking are the shell's.
  *
- * Every call returns its number: 0 for success (a raise 100 to 103), 1 to 99 for a refusal (1 to 14 are in use). A refused call leaves every
- * byte of the state, of the tables and of the buffers, and every value behind a pointer, as it was. The one exception is
- * `used` of sv_send_text, which is written at every call.
+ * Every call returns its number: 0 for success (a raise 100 to 103), 1 to 99 for a refusal (1 to 14 are in use).
+ * A refused call leaves every byte of the state, of the tables and of the buffers, and every value behind a pointer, as
+ * it was. The one exception is `used` of sv_send_text, which is written at every call.
  *
  *    1  a setting missing or out of range      8  bad identifier
  *    2  no state, or a table too short         9  rtr above 1
@@ -96,7 +96,7 @@ enum { SV_CAN_20A = 0, SV_CAN_20B = 1 };
 enum { SV_DEFAULT = 0, SV_STANDARD = 1, SV_EXTENDED = 2 };
 enum { SV_TX_SILENT = 1, SV_TX_AT_TAKE = 3, SV_TX_AT_DONE = 7 };
 
-/* Where a state keeps the event mask, the queue's count and the pending lost count; where an event has its lost count. */
+/* Where a state keeps event mask, queue count and pending lost count, and where an event has its lost count. */
 enum { SV_AT_EVENT_MASK = 24, SV_AT_QUEUE_COUNT = 36, SV_AT_PENDING = 40, SV_AT_LOST = 12 };
 
 /* ---- opening */

@@ -402,7 +402,8 @@ module _ (given s : List ℕ) (l : Lent) where
           rw (h, eq-eqb _ 0 y, ne-eqb _ stateSize k)
           (record { number = refl; state-bytes = refl; lent-bytes = refl })
 
-      pub open-kept : length s ≡ stateSize → {t : List ℕ} → t ≡ stateBytes (r .device) → Called (openedOn given s l) s 0 t l
+      pub open-kept : length s ≡ stateSize → {t : List ℕ} → t ≡ stateBytes (r .device)
+          → Called (openedOn given s l) s 0 t l
       unfolding openedOn isRefusal
       open-kept k w =
           let device = ap (λ (x : Answer). x .device) (rw e at a) in

@@ -53,7 +53,14 @@ separator-kind b ends gaps =
     (⊎-elim
     (λ h. simp (e, le-leb 48 b (omega arith), lt-leb b 57 (h .0), lt-leb 65 b (h .1), lt-leb 97 b (omega arith)))
     (⊎-elim
-    (λ h. simp (e, le-leb 48 b (omega arith), lt-leb b 57 (omega arith), le-leb 65 b (omega arith), lt-leb b 70 (h .0), lt-leb 97 b (h .1)))
+    (λ h. simp (
+      e,
+      le-leb 48 b (omega arith),
+      lt-leb b 57 (omega arith),
+      le-leb 65 b (omega arith),
+      lt-leb b 70 (h .0),
+      lt-leb 97 b (h .1),
+    ))
     (λ h. simp (
       e,
       le-leb 48 b (omega arith),

@@ -10,8 +10,9 @@ use Rattle.common.specs.Numbers.{among}
 use Rattle.common.proofs.Choices.{pick-is}
 use Rattle.ids.specs.Ids.{rawOf, isBad}
 use Rattle.ids.specs.Frames.{carried}
-use Rattle.numbers.specs.Numbers.{numbers, beforeEnd, usedOf}
-use Rattle.message_text.specs.Reading.{parsedHeader, allBytes, dataOf, refused, judgedData, judged, readMessage}
+use Rattle.numbers.specs.Numbers.{numbers, beforeEnd}
+use Rattle.message_text.specs.Reading.{usedOf, parsedHeader, allBytes, dataOf, refused, judgedData, judged}
+use Rattle.message_text.specs.Reading.{readMessage}
 use Rattle.message_text.specs.declared.Said.{Said}
 use Rattle.message_text.specs.declared.Answer.the-variants.{Taken}
 

@@ -14,8 +14,8 @@ use Rattle.ids.specs.declared.Header.{Header}
 use Rattle.ids.proofs.Frames.{carried-le}
 use Rattle.digits.specs.Reading.{capped}
 use Rattle.digits.proofs.Capped.{ltb-capped}
-use Rattle.message_text.specs.Reading.{parsedHeader, allBytes, judgedData, judged, readMessage}
-use Rattle.numbers.specs.Numbers.{numbers, beforeEnd, usedOf}
+use Rattle.message_text.specs.Reading.{parsedHeader, allBytes, judgedData, judged, readMessage, usedOf}
+use Rattle.numbers.specs.Numbers.{numbers, beforeEnd}
 use Rattle.numbers.specs.Scan.{keptFrom, keptOf}
 use Rattle.numbers.specs.declared.Kept.{Kept}
 use Rattle.message_text.specs.declared.Said.{Said}

@@ -8,9 +8,9 @@ use lib.ListN.{length, take, drop, length-append, length-drop}
 use lib.Seq.{take-add, drop-at, length-take-le}
 use Rattle.common.specs.Choice.{pick}
 use Rattle.common.proofs.Bools.{apart}
-use Rattle.numbers.specs.Numbers.{Place, between, ended, after, isEnd, isDigit}
-use Rattle.numbers.specs.Numbers.{numbersFrom, numbers, beforeEnd, endRun, usedOf}
-use Rattle.message_text.specs.Reading.{readMessage, refused, parsedNumber, usedBy}
+use Rattle.numbers.specs.Numbers.{Place, between, ended, after, isEnd, isDigit, numbersFrom, numbers, beforeEnd}
+use Rattle.numbers.specs.Numbers.{endRun}
+use Rattle.message_text.specs.Reading.{usedOf, readMessage, refused, parsedNumber, usedBy}
 use Rattle.common.proofs.Choices.{by-test, pick-is, pick-same}
 use Rattle.message_text.proofs.Cases.{isRefusal, judged-is}
 

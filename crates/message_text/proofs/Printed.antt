@@ -22,7 +22,8 @@ use Rattle.messages.specs.Records.{goodMessage, messageIn, isMessage, judgeMess
 use Rattle.messages.specs.declared.Message.{Message}
 use Rattle.messages.specs.declared.JudgedMessage.{JudgedMessage}
 use Rattle.messages.proofs.RoundTrip.{good-is, message-as, judged-good}
-use Rattle.message_text.specs.Printing.{messageRoom, messageText, messageLine, messageRefusal, messageRecordRefusal}
+use Rattle.message_text.specs.Printing.{messageRoom, messageText, messageLine, messageRefusal}
+use Rattle.message_text.specs.Printing.{messageRecordRefusal}
 use Rattle.digits.proofs.Answers.{line-printed, passed}
 use Rattle.message_text.proofs.Length.{message-line-le}
 

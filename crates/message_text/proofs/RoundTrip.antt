@@ -25,9 +25,8 @@ use Rattle.ids.proofs.Frames.{HeaderFacts, good-header, carried-le}
 use Rattle.ids.proofs.RoundTrip.{good-aligned, read-back}
 use Rattle.messages.specs.Records.{goodMessage}
 use Rattle.messages.specs.declared.Message.{Message}
-use Rattle.numbers.specs.Numbers.{Place, between, within, grown, isEnd, numbersFrom, numbers, beforeEnd}
-use Rattle.numbers.specs.Numbers.{endRun, usedOf}
-use Rattle.message_text.specs.Reading.{allBytes, judgedData, judged, readMessage}
+use Rattle.numbers.specs.Numbers.{Place, between, within, grown, isEnd, numbersFrom, numbers, beforeEnd, endRun}
+use Rattle.message_text.specs.Reading.{usedOf, allBytes, judgedData, judged, readMessage}
 use Rattle.message_text.specs.Printing.{messageText, messageLine}
 use Rattle.message_text.specs.declared.Answer.the-variants.{Taken}
 

@@ -8,7 +8,7 @@ use Rattle.common.specs.Choice.{pick}
 use Rattle.ids.specs.Ids.{rawOf, isBad, idNumber}
 use Rattle.ids.specs.Frames.{carried}
 use Rattle.ids.specs.declared.Header.{Header}
-use Rattle.numbers.specs.Numbers.{numbers, beforeEnd, usedOf}
+use Rattle.numbers.specs.Numbers.{numbers, beforeEnd, endRun}
 use Rattle.message_text.specs.declared.Said.{Said}
 use Rattle.message_text.specs.declared.Answer.{Answer}
 use Rattle.message_text.specs.declared.Answer.the-variants.{Taken, Refused}
@@ -51,6 +51,10 @@ judged align format n values used =
     (pick (ltb 1 (getD values 1 0)) (refused 9 used)
     (pick (ltb 15 (getD values 2 0)) (refused 10 used)
     (judgedData (parsedHeader align format values) n values used))))
+
+-- the bytes used: the run of ends is used too
+abbrev pub usedOf : List ℕ → ℕ
+usedOf text = beforeEnd text + endRun (drop (beforeEnd text) text)
 
 -- what a text says: 6 where it has no end, with 0 bytes used; else what its numbers say
 unfoldable pub readMessage : ℕ → ℕ → List ℕ → Said

@@ -21,9 +21,8 @@ use Rattle.events.specs.Records.{isEvent, eventIn}
 use Rattle.events.specs.Raised.{frameRefusal}
 use Rattle.events.specs.declared.Event.{Event}
 use Rattle.messages.specs.declared.Message.{Message}
-use Rattle.numbers.specs.Numbers.{usedOf}
+use Rattle.message_text.specs.Reading.{usedOf, refused}
 use Rattle.message_text.specs.Printing.{messageRoom, messageLine, messageRefusal, messageRecordRefusal}
-use Rattle.message_text.specs.Reading.{refused}
 use Rattle.message_text.proofs.Cases.{read-is}
 use Rattle.event_text.specs.Lines.{eventRoom, eventLine, eventRecordRefusal}
 use Rattle.settings.specs.Ranges.{goodShared}
@@ -35,8 +34,8 @@ use Rattle.model.specs.Inbox.{identifiersThrough, Received, takesOldest,
 use Rattle.model.specs.Outbox.{SendCall, send, sendText, take, done, abort, Posted, posted, put, putText, takes}
 use Rattle.model.specs.Outbox.{takesInto, finishes, posts}
 use Rattle.model.specs.Box.{Box, box, Step, steps, DeviceCall, raise, setMode, setFormat, noted, changes, does}
-use Rattle.model.specs.Box.{PrintCall, printMessageRecord, printEventRecord, printMessage, lineSaid, shows, Call}
-use Rattle.model.specs.Box.{onDevice, onReceive, onSend, onAlign, step}
+use Rattle.model.specs.Box.{PrintCall, printMessageRecord, printEventRecord, printMessage, lineSaid, shows}
+use Rattle.model.specs.Box.{Call, onDevice, onReceive, onSend, onAlign, step}
 use Rattle.model.specs.Listed.{usual, beside, Untouched}
 use Rattle.model.proofs.Choices.{either}
 use Rattle.model.proofs.Lasting.{arrival-is}

@@ -7,7 +7,7 @@ use mathlib.Core.List.{List, [], _∷_}
 use lib.Dec.{eqb}
 use Rattle.common.specs.Choice.{pick}
 use Rattle.common.specs.Numbers.{allZero, among}
-use Rattle.numbers.specs.Numbers.{usedOf}
+use Rattle.message_text.specs.Reading.{usedOf}
 use Rattle.model.specs.Inbox.{ReceiveCall, readRecord, readText, look}
 use Rattle.model.specs.Inbox.{setFilter, setEventMask, identifiersThrough}
 use Rattle.model.specs.Outbox.{SendCall, send, sendText, take, done, abort}

@@ -1,8 +1,7 @@
--- The numbers of a message text, and the bytes that it uses (01, "The two texts").
+-- The numbers of a message text, and its ends (01, "The two texts").
 use Prim.Native.Nat.{ℕ, _+_, _*_}
 use mathlib.Core.List.{List, [], _∷_, _++_}
 use mathlib.Core.Bool.{Bool}
-use lib.ListN.{drop}
 use lib.Dec.{ltb, eqb}
 use Rattle.common.specs.Choice.{pick}
 use Rattle.digits.specs.Reading.{byteKind}
@@ -52,7 +51,3 @@ beforeEnd (b ∷ bs) = pick (isEnd b) 0 (1 + beforeEnd bs)
 unfoldable pub endRun : List ℕ → ℕ
 endRun [] = 0
 endRun (b ∷ bs) = pick (isEnd b) (1 + endRun bs) 0
-
--- the bytes used: the run of ends is used too
-abbrev pub usedOf : List ℕ → ℕ
-usedOf text = beforeEnd text + endRun (drop (beforeEnd text) text)

@@ -1,4 +1,4 @@
-// The numbers of a message text, and the bytes that it uses.
+// The numbers of a message text, and its ends.
 pub mod scanning;
 
 // The first eleven numbers of a text, each at most 2 ^ 32, and how many there are, at most 12.

@@ -60,7 +60,11 @@ send-possible s t o h = rw (h .possible, h .messages .numbers, register-possible
 pub device-possible : (d : Device) (q t : List ℕ) (b : Box) → Stands d q t b → good d ≡ true
 unfolding good
 device-possible d q t b h =
-    rw (h .possible, receive-possible (d .receive) q (b .inbox) (h .inbox), send-possible (d .send) t (b .outbox) (h .outbox))
+    rw (
+      h .possible,
+      receive-possible (d .receive) q (b .inbox) (h .inbox),
+      send-possible (d .send) t (b .outbox) (h .outbox),
+    )
 
 -- and so are its settings and its receive channel, ready for the event table
 pub inbox-possible : (d : Device) (q t : List ℕ) (b : Box) → Stands d q t b → possible (d .shared) (d .receive) ≡ true

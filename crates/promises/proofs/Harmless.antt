@@ -35,7 +35,7 @@ use Rattle.outbox.specs.Refusals.{possible, putRefusal, waitRefusal, takeRefusa
 use Rattle.outbox.specs.Refusals as Refusals
 use Rattle.outbox.specs.Calls as Wire
 use Rattle.message_text.specs.Printing.{messageRoom, messageRefusal, messageRecordRefusal}
-use Rattle.numbers.specs.Numbers.{usedOf}
+use Rattle.message_text.specs.Reading.{usedOf}
 use Rattle.message_text.proofs.Cases.{read-is}
 use Rattle.event_text.specs.Lines.{eventRoom, eventLine, eventRecordRefusal}
 use Rattle.recorder.specs.State.{good, fresh, noDevice, withShared, withReceive}

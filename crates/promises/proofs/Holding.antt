@@ -60,8 +60,10 @@ module _ {A : Type 0} (bytes : A → List ℕ) (w limit : ℕ) (r : Ring) (t : L
   holds-rest x xs h =
       let f : RingFacts limit r = good-ring limit r (h .numbers) in
       let fits : w * r .capacity ≤ length t = leb-true (w * r .capacity) (length t) (h .long) in
-      let e = sym (held-rest w limit r t f fits (omega (arith, holds-count (x ∷ xs) h))) ∙ h .slots in
-      (ap foremost e, record { numbers = facts-good limit (withoutOldest r) (facts-rest limit r f); long = h .long; slots = ap (drop 1) e })
+      let e = sym (held-rest w limit r t f fits (omega (arith, holds-count (x ∷ xs) h))) ∙ h .slots in (
+        ap foremost e,
+        record { numbers = facts-good limit (withoutOldest r) (facts-rest limit r f); long = h .long; slots = ap (drop 1) e },
+      )
 
   -- a purge leaves none
   pub holds-none : (xs : List A) → Holds bytes w limit r t xs → Holds bytes w limit (purged r) t []
@@ -70,7 +72,8 @@ module _ {A : Type 0} (bytes : A → List ℕ) (w limit : ℕ) (r : Ring) (t : L
       let f : RingFacts limit r = good-ring limit r (h .numbers) in
       record {
         numbers =
-            facts-good limit (purged r) (record { some = f .some; within = f .within; first-in = f .first-in; count-in = omega arith });
+            facts-good limit (purged r)
+            (record { some = f .some; within = f .within; first-in = f .first-in; count-in = omega arith });
         long = h .long;
         slots = refl;
       }

@@ -119,7 +119,11 @@ module _ (m : Message) (d e : Device) (l n : Lent) (d-good : good d ≡ true) (r
   record-reads-back =
       let i = message-is m sound in
       back (onAlign (printMessageRecord (messageBytes m)))
-      (rw (i .1) (printed-is _ (rw (le-ltb (length (l .out)) messageRoom room, le-leb (d .shared .align) 3 align-le, i .0))))
+      (rw (i .1) (printed-is _ (rw (
+        le-ltb (length (l .out)) messageRoom room,
+        le-leb (d .shared .align) 3 align-le,
+        i .0,
+      ))))
 
   -- THEOREM. And printed by the call that prints a message
   pub message-reads-back : ReadsBack (onAlign (printMessage m)) (messageBytes m) d e l n

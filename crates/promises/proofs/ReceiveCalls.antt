@@ -149,7 +149,8 @@ module _ (d : Device) (q t out : List ℕ) (i : ℕ) (b : Inbox) (o : Outbox) (h
 
       by : (ks : List Kept) → b .queue ≡ ks
           → Agrees
-          (lifted (Queue.settled (oldestRefusal (d .receive) q) [] (d .receive) (Queue.printsOldest (d .receive) line)) d l)
+          (lifted (Queue.settled (oldestRefusal (d .receive) q) [] (d .receive)
+          (Queue.printsOldest (d .receive) line)) d l)
           out (Taken d o (takesOldest (says 4) (λ (e : Event). prints (eventLine (d .shared .align) e)) ks b))
       by [] e = rw (nothing-read e) (told (says 4) d q t out, h)
       by (k ∷ rest) e =

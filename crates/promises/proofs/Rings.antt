@@ -33,7 +33,12 @@ module _ (limit : ℕ) (r : Ring) where
   pub facts-rest : RingFacts limit r → RingFacts limit (withoutOldest r)
   unfolding slotOf
   facts-rest f =
-      record { some = f .some; within = f .within; first-in = mod-lt (r .first + 1) (f .some); count-in = omega (arith, f .count-in) }
+      record {
+        some = f .some;
+        within = f .within;
+        first-in = mod-lt (r .first + 1) (f .some);
+        count-in = omega (arith, f .count-in);
+      }
 
 module _ (w limit : ℕ) (r : Ring) (t : List ℕ) (f : RingFacts limit r) (long : w * r .capacity ≤ length t) where
   -- a store behind the newest: one more at the end

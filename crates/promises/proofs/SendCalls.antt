@@ -15,8 +15,7 @@ use Rattle.messages.specs.Records.{messageSize, messageBytes, noMessage}
 use Rattle.events.specs.Raised.{eventOf}
 use Rattle.messages.specs.declared.Message.{Message}
 use Rattle.messages.proofs.RoundTrip.{message-bytes-length}
-use Rattle.numbers.specs.Numbers.{usedOf}
-use Rattle.message_text.specs.Reading.{readMessage}
+use Rattle.message_text.specs.Reading.{usedOf, readMessage}
 use Rattle.message_text.proofs.Cases.{read-is}
 use Rattle.message_text.proofs.Taken.{taken-good}
 use Rattle.settings.specs.Ranges.{formatOf}

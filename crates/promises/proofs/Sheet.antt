@@ -184,7 +184,8 @@ fives =
 received : Made
 received = record {
   call =
-      onDevice (raise 1 12568 (record { header = record { id = 0x112; format = 1; rtr = 1; dlc = 0 }; bytes = replicate 8 0 }));
+      onDevice (raise 1 12568
+      (record { header = record { id = 0x112; format = 1; rtr = 1; dlc = 0 }; bytes = replicate 8 0 }));
   out = [];
   typed = (
     omega arith,

@@ -96,7 +96,8 @@ module _ (tick : ℕ) (m : Message) (t : Word tick) (eight : length (m .bytes) �
   event-sound code w r = by (holdsFrame code) refl r
     where
       by : (b : Bool) → holdsFrame code ≡ b → pick b (headerRefusal (m .header)) 0 ≡ 0
-          → SoundEvent (pick b (framed code tick m) (record { kind = Other code; low = tick; high = 0; lost = 0; bytes = replicate 8 0 }))
+          → SoundEvent (pick b (framed code tick m)
+          (record { kind = Other code; low = tick; high = 0; lost = 0; bytes = replicate 8 0 }))
       by true h r = sound-frame code h r
       by false h r =
           record { code = w; low = t; high = omega arith; lost = omega arith; eight = refl; whole = unfold goodEvent in rw h }

@@ -58,13 +58,27 @@ module _ (t : ℕ) where
   slice-write-out-2 c =
       let s = c .before .before .before .before .before .before in
       let k = c .before .before .put-decimal in
-      omega (arith, decimal-length-suc (s .args .n) (omega arith) (search needs), k .kept .0, k .ensures .place, s .pre .1)
+      omega (
+        arith,
+        decimal-length-suc (s .args .n) (omega arith) (search needs),
+        k .kept .0,
+        k .ensures .place,
+        s .pre .1,
+      )
 
   add-result-2 : tie.Need-add-result-2 (below, own.Post) here own.Post
   add-result-2 c =
       let s = c .before .before .before .before .before .before in
       let k = c .before .before .put-decimal in
-      record { fits = omega (arith, decimal-length-suc (s .args .n) (omega arith) (search needs), k .ensures .place, s .pre .1, s .good .0 .0) }
+      record {
+        fits = omega (
+          arith,
+          decimal-length-suc (s .args .n) (omega arith) (search needs),
+          k .ensures .place,
+          s .pre .1,
+          s .good .0 .0,
+        );
+      }
 
   same-length-2 : tie.Need-same-length-2 (below, own.Post) here own.Post
   same-length-2 c = search needs

@@ -23,7 +23,8 @@ returns-3 c =
     let t = j .before in
     let d = damaged (now (t .before .before .before .before .args .s)) (j .judge-message .result)
     (j .judge-message .ensures) (c .before .if3 .taken) in
-    refused 14 (c .refuse3 .ensures) (passed messageRoom _ _ _ (t .before .if1 .left) (t .if2 .left) ∙ d) (λ z. omega arith)
+    refused 14 (c .refuse3 .ensures)
+    (passed messageRoom _ _ _ (t .before .if1 .left) (t .if2 .left) ∙ d) (λ z. omega arith)
 
 returns-4 : tie.Need-returns-4
 returns-4 c =

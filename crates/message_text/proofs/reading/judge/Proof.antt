@@ -20,7 +20,12 @@ unfolding judged
 returns-3 c =
     let e = sym (c .before .before .before .before .before .raw-of .ensures)
     ∙ c .before .before .before .id .given .1 in
-    rw (c .refuse3 .ensures, le-ltb _ _ (c .before .before .before .before .before .before .if1 .left), e, lt-ltb _ _ (c .before .if2 .taken))
+    rw (
+      c .refuse3 .ensures,
+      le-ltb _ _ (c .before .before .before .before .before .before .if1 .left),
+      e,
+      lt-ltb _ _ (c .before .if2 .taken),
+    )
 
 returns-4 : tie.Need-returns-4
 unfolding judged

@@ -38,8 +38,10 @@ returns-3 c =
 
 data-bytes-requires : tie.Need-data-bytes-requires
 data-bytes-requires c κs =
-    let l = carried-le (c .before .before .before .before .before .before .args .h) in
-    (omega (arith, c .before .before .before .before .carried-by .ensures), said (c .before .all-bytes .ensures) (c .if3 .left))
+    let l = carried-le (c .before .before .before .before .before .before .args .h) in (
+      omega (arith, c .before .before .before .before .carried-by .ensures),
+      said (c .before .all-bytes .ensures) (c .if3 .left),
+    )
 
 returns-4 : tie.Need-returns-4
 unfolding judgedData
