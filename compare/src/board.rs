@@ -1,7 +1,7 @@
 //! The proved recorder through its C interface (include/salmevidro.h).
 
 use crate::call::{Call, Places};
-use independent::{Message, Settings};
+use independent::{Message, Settings, EVENT_BYTES, MESSAGE_BYTES};
 
 type Bytes = *const u8;
 type BytesMut = *mut u8;
@@ -152,7 +152,7 @@ pub fn raise(state: &mut [u8], code: u32, tick: u32, frame: &Message, data: &[u8
     }
 }
 
-pub fn read_record(state: &mut [u8], queue: &[u8], out: &mut [u8; 32]) -> u32 {
+pub fn read_record(state: &mut [u8], queue: &[u8], out: &mut [u8; EVENT_BYTES]) -> u32 {
     unsafe { sv_read_record(state.as_mut_ptr(), state.len(), queue.as_ptr(), queue.len(), out.as_mut_ptr()) }
 }
 
@@ -166,7 +166,7 @@ pub fn send_text(state: &mut [u8], text: &[u8], send: &mut [u8], used: &mut usiz
     unsafe { sv_send_text(s, state.len(), text.as_ptr(), text.len(), d, send.len(), used) }
 }
 
-pub fn take(state: &mut [u8], tick: u32, send: &[u8], queue: &mut [u8], out: &mut [u8; 16]) -> u32 {
+pub fn take(state: &mut [u8], tick: u32, send: &[u8], queue: &mut [u8], out: &mut [u8; MESSAGE_BYTES]) -> u32 {
     let (s, q, o) = (state.as_mut_ptr(), queue.as_mut_ptr(), out.as_mut_ptr());
     unsafe { sv_take(s, state.len(), tick, send.as_ptr(), send.len(), q, queue.len(), o) }
 }

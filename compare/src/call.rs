@@ -1,7 +1,7 @@
 //! The public calls with what they are given, and where their values are handed back.
 
 use crate::lent::Lent;
-use independent::{Message, Settings};
+use independent::{Message, Settings, EVENT_BYTES, MESSAGE_BYTES};
 
 #[derive(Clone, Debug)]
 pub enum Call {
@@ -96,8 +96,8 @@ impl Call {
             | Call::PrintMessageRecord { room, .. }
             | Call::PrintEventRecord { room, .. }
             | Call::PrintMessage { room, .. } => *room,
-            Call::ReadRecord => 32,
-            Call::Take { .. } => 16,
+            Call::ReadRecord => EVENT_BYTES,
+            Call::Take { .. } => MESSAGE_BYTES,
             _ => 0,
         }
     }

@@ -2,7 +2,7 @@
 
 use crate::draw::Draw;
 use crate::state::set_word;
-use independent::{Device, Message, Settings};
+use independent::{Device, Message, Settings, EVENT_BYTES, LARGEST_QUEUE, LARGEST_SEND_BUFFER, MESSAGE_BYTES};
 
 const CAPACITIES: [u32; 12] = [1, 1, 2, 2, 3, 4, 5, 7, 8, 16, 33, 64];
 
@@ -19,9 +19,9 @@ pub fn settings(draw: &mut Draw) -> Settings {
         code: draw.any_word(),
         mask: if mask_active == 0 { free } else { !free },
         event_mask: event_mask(draw),
-        queue_capacity: capacity(draw, 2_048),
+        queue_capacity: capacity(draw, LARGEST_QUEUE),
         tx_mode: draw.pick(&[1, 3, 5, 7]),
-        send_capacity: capacity(draw, 1_024),
+        send_capacity: capacity(draw, LARGEST_SEND_BUFFER),
     }
 }
 
@@ -72,7 +72,7 @@ pub fn bad_settings(draw: &mut Draw) -> Settings {
         5 => given.event_mask |= 1 << (12 + draw.below(20)),
         6 => given.queue_capacity = draw.pick(&[0, 2_049, 4_096, u32::MAX]),
         7 => given.tx_mode = draw.pick(&[0, 2, 4, 6, 8, 9, u32::MAX]),
-        8 => given.send_capacity = draw.pick(&[0, 1_025, 2_048, u32::MAX]),
+        8 => given.send_capacity = draw.pick(&[0, LARGEST_SEND_BUFFER + 1, LARGEST_QUEUE, u32::MAX]),
         _ => given.queue_capacity = 2_049 + draw.any_word() % 1_000_000,
     }
     given
@@ -152,10 +152,10 @@ pub fn message_to_send(draw: &mut Draw, device: &Device, bad: bool) -> Message {
     }
 }
 
-/// 16 bytes of a good message.
+/// The bytes of a good message.
 pub fn message_record(draw: &mut Draw) -> Vec<u8> {
     let frame = kept_frame(draw);
-    let mut record = vec![0; 16];
+    let mut record = vec![0; MESSAGE_BYTES];
     set_word(&mut record, 0, frame.id);
     record[4..7].copy_from_slice(&[frame.format as u8, frame.rtr as u8, frame.dlc as u8]);
     record[8..].copy_from_slice(&frame.data);
@@ -164,7 +164,7 @@ pub fn message_record(draw: &mut Draw) -> Vec<u8> {
 
 /// 32 bytes of a good event.
 pub fn event_record(draw: &mut Draw) -> Vec<u8> {
-    let mut record = vec![0; 32];
+    let mut record = vec![0; EVENT_BYTES];
     let code = event_code(draw);
     for (at, word) in [(0, code), (4, draw.any_word()), (8, draw.any_word()), (12, draw.any_word())] {
         set_word(&mut record, at, word);

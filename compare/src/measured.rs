@@ -5,7 +5,7 @@
 
 use crate::board;
 use crate::state::{set_rings, STATE};
-use independent::{Device, Message, Settings};
+use independent::{Device, Message, Settings, EVENT_BYTES, EVENT_ROOM, MESSAGE_BYTES};
 use std::hint::black_box;
 
 /// How many calls a turn makes.
@@ -86,8 +86,8 @@ impl Beds {
             tx_mode: 7,
             send_capacity: places,
         };
-        let mut queue = vec![0; 32 * slots as usize];
-        let mut send = vec![0; 16 * places as usize];
+        let mut queue = vec![0; EVENT_BYTES * slots as usize];
+        let mut send = vec![0; MESSAGE_BYTES * places as usize];
         let mut state = vec![0; STATE];
         board::open(&mut state, &settings, &queue, &send);
         let (_, mut device) = Device::open(&settings, &queue, &send);
@@ -122,7 +122,7 @@ fn board_turn(bed: &mut Bed<Vec<u8>>, given: Given) -> Turn<'_> {
     let (queued, buffered) = row.fillings(slots, places);
     let mut at = 0u32;
     Box::new(move || {
-        let (mut out, mut record, mut line, mut size) = ([0; 32], [0; 16], [0; 80], 0);
+        let (mut out, mut record, mut line, mut size) = ([0; EVENT_BYTES], [0; MESSAGE_BYTES], [0; EVENT_ROOM], 0);
         for _ in 0..CALLS {
             at = at.wrapping_add(1);
             set_rings(state, (at % slots, queued), (at % places, buffered));
@@ -138,7 +138,7 @@ fn board_turn(bed: &mut Bed<Vec<u8>>, given: Given) -> Turn<'_> {
                     answered(board::done(state, at, queue), 0);
                 }
                 Row::PrintMessageRecord => {
-                    answered(board::print_message_record(state, &send[..16], &mut line, &mut size), 0)
+                    answered(board::print_message_record(state, &send[..MESSAGE_BYTES], &mut line, &mut size), 0)
                 }
             }
             black_box((&out, &record, &line, size));
@@ -152,7 +152,7 @@ fn second_turn(bed: &mut Bed<Box<Device>>, given: Given) -> Turn<'_> {
     let (queued, buffered) = row.fillings(slots, places);
     let mut at = 0u32;
     Box::new(move || {
-        let (mut out, mut record, mut line, mut size) = ([0; 32], [0; 16], [0; 80], 0);
+        let (mut out, mut record, mut line, mut size) = ([0; EVENT_BYTES], [0; MESSAGE_BYTES], [0; EVENT_ROOM], 0);
         for _ in 0..CALLS {
             at = at.wrapping_add(1);
             set_device_rings(device, (at % slots, queued), (at % places, buffered));
@@ -166,7 +166,7 @@ fn second_turn(bed: &mut Bed<Box<Device>>, given: Given) -> Turn<'_> {
                     answered(plain::done(device, at, queue), 0);
                 }
                 Row::PrintMessageRecord => {
-                    answered(plain::print_message_record(device, &send[..16], &mut line, &mut size), 0)
+                    answered(plain::print_message_record(device, &send[..MESSAGE_BYTES], &mut line, &mut size), 0)
                 }
             }
             black_box((&out, &record, &line, size));
@@ -181,7 +181,7 @@ fn set_device_rings(device: &mut Device, queue: (u32, u32), send: (u32, u32)) {
 
 /// Calls of the second implementation, each behind a boundary as the C interface is.
 mod plain {
-    use independent::{Device, Message};
+    use independent::{Device, Message, EVENT_BYTES, MESSAGE_BYTES};
 
     #[inline(never)]
     pub fn raise(device: &mut Device, code: u32, tick: u32, frame: &Message, queue: &mut [u8]) -> u32 {
@@ -189,7 +189,7 @@ mod plain {
     }
 
     #[inline(never)]
-    pub fn read_record(device: &mut Device, queue: &[u8], out: &mut [u8; 32]) -> u32 {
+    pub fn read_record(device: &mut Device, queue: &[u8], out: &mut [u8; EVENT_BYTES]) -> u32 {
         let (number, bytes) = device.read_record(queue);
         *out = bytes;
         number
@@ -210,7 +210,7 @@ mod plain {
     }
 
     #[inline(never)]
-    pub fn take(device: &mut Device, tick: u32, send: &[u8], queue: &mut [u8], out: &mut [u8; 16]) -> u32 {
+    pub fn take(device: &mut Device, tick: u32, send: &[u8], queue: &mut [u8], out: &mut [u8; MESSAGE_BYTES]) -> u32 {
         let (number, bytes) = device.take(tick, send, queue);
         *out = bytes;
         number

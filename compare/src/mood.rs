@@ -3,7 +3,7 @@
 use crate::call::{Call, KINDS};
 use crate::draw::Draw;
 use crate::{making, texts};
-use independent::Device;
+use independent::{Device, EVENT_ROOM, MESSAGE_ROOM};
 
 /// Weights in the order of `KINDS`.
 type Weights = [u32; KINDS.len()];
@@ -92,7 +92,7 @@ impl Mood {
             4 => Call::SetEventMask { events: events(draw) },
             5 => raise(draw, tick),
             6 => Call::ReadRecord,
-            7 => Call::ReadText { room: making::room(draw, 80) },
+            7 => Call::ReadText { room: making::room(draw, EVENT_ROOM) },
             8 => Call::LookNumber { p: position(draw, device) },
             9 => Call::Look { p: position(draw, device) },
             _ => Call::IdentifiersThrough { format: small(draw, 3) },
@@ -112,15 +112,15 @@ fn send_side(draw: &mut Draw, device: &Device, kind: usize, stream: &[u8]) -> Ca
         15 => Call::Abort { tick },
         16 => {
             let good = making::message_record(draw);
-            Call::PrintMessageRecord { record: making::any_record(draw, good), room: making::room(draw, 37) }
+            Call::PrintMessageRecord { record: making::any_record(draw, good), room: making::room(draw, MESSAGE_ROOM) }
         }
         17 => {
             let good = making::event_record(draw);
-            Call::PrintEventRecord { record: making::any_record(draw, good), room: making::room(draw, 80) }
+            Call::PrintEventRecord { record: making::any_record(draw, good), room: making::room(draw, EVENT_ROOM) }
         }
         _ => {
             let message = if draw.one_in(3) { making::bad_frame(draw) } else { making::good_frame(draw) };
-            Call::PrintMessage { message, room: making::room(draw, 37) }
+            Call::PrintMessage { message, room: making::room(draw, MESSAGE_ROOM) }
         }
     }
 }

@@ -2,7 +2,7 @@
 
 use crate::call::{is_refusal, Call, Places};
 use crate::state::{Kept, State};
-use independent::Settings;
+use independent::{Settings, EVENT_BYTES};
 
 /// Makes the call; a call is lent only what it uses.
 pub fn call(call: &Call, state: &mut State, queue: &mut [u8], send: &mut [u8], places: &mut Places) -> u32 {
@@ -94,7 +94,7 @@ fn hand_bytes<const N: usize>(answer: (u32, [u8; N]), place: &mut [u8]) -> u32 {
 fn look(device: &independent::Device, p: u32, queue: &[u8]) -> (u32, usize) {
     let part = device.look(p, queue);
     let number = device.look_number(p, queue);
-    let expected = if number == 0 { 32 } else { 0 };
+    let expected = if number == 0 { EVENT_BYTES } else { 0 };
     assert_eq!(part.len(), expected, "independent: a look's part");
     (number, part.as_ptr() as usize - queue.as_ptr() as usize)
 }

@@ -9,7 +9,8 @@ use crate::state::{register_bytes, set_word, Kept, HELD_AT, REGISTER_AT, STATE};
 use crate::sum::{raised, Found, Sum};
 use crate::tally::{Deep, Tally};
 use crate::texts::values_before_end;
-use independent::{Device, Settings};
+use independent::{Device, Settings, EVENT_BYTES, LARGEST_QUEUE, LARGEST_SEND_BUFFER, MESSAGE_BYTES};
+use std::ops::Range;
 
 pub struct Session<'run> {
     draw: &'run mut Draw,
@@ -28,7 +29,7 @@ impl<'run> Session<'run> {
         let given = making::settings(draw);
         let (slots, places) = (given.queue_capacity as usize, given.send_capacity as usize);
         let spare = |draw: &mut Draw| if draw.one_in(2) { 0 } else { draw.size_below(70) };
-        let full = Lengths { queue: 32 * slots + spare(draw), send: 16 * places + spare(draw) };
+        let full = Lengths { queue: EVENT_BYTES * slots + spare(draw), send: MESSAGE_BYTES * places + spare(draw) };
         let sides = Sides::new(draw, full.queue, full.send);
         let stream = Vec::new();
         let mut session = Session { draw, tally, sides, full, clean, sum: Sum::default(), stream };
@@ -94,27 +95,33 @@ impl<'run> Session<'run> {
         Ok(())
     }
 
+    /// Where the oldest slots of both tables stand.
+    fn oldest_slots(&self) -> (Range<usize>, Range<usize>) {
+        let device = self.device();
+        let event = EVENT_BYTES * device.receive.ring.first as usize;
+        let message = MESSAGE_BYTES * device.send.ring.first as usize;
+        (event..event + EVENT_BYTES, message..message + MESSAGE_BYTES)
+    }
+
     /// Good records in both oldest slots.
     fn mend_oldest(&mut self) {
-        let device = self.device();
-        let oldest = [32 * device.receive.ring.first as usize, 16 * device.send.ring.first as usize];
+        let (event_at, message_at) = self.oldest_slots();
         let (event, message) = (making::event_record(self.draw), making::message_record(self.draw));
         self.sides.write_tables(|queue, send| {
-            queue[oldest[0]..oldest[0] + 32].copy_from_slice(&event);
-            send[oldest[1]..oldest[1] + 16].copy_from_slice(&message);
+            queue[event_at.clone()].copy_from_slice(&event);
+            send[message_at.clone()].copy_from_slice(&message);
         });
     }
 
     /// Overwrites bytes of the slots in use, or anywhere.
     fn damage_tables(&mut self) {
-        let device = self.device();
-        let oldest = [32 * device.receive.ring.first as usize, 16 * device.send.ring.first as usize];
+        let (event_at, message_at) = self.oldest_slots();
         let seed = self.draw.next();
         self.sides.write_tables(|queue, send| {
             let mut draw = Draw::new(seed);
             if draw.one_in(2) {
-                making::damage(&mut draw, &mut queue[oldest[0]..oldest[0] + 32]);
-                making::damage(&mut draw, &mut send[oldest[1]..oldest[1] + 16]);
+                making::damage(&mut draw, &mut queue[event_at.clone()]);
+                making::damage(&mut draw, &mut send[message_at.clone()]);
             } else {
                 making::damage(&mut draw, queue);
                 making::damage(&mut draw, send);
@@ -174,11 +181,11 @@ impl<'run> Session<'run> {
                 Deep::StateLength
             }
             1 => {
-                lengths.queue = shorter(self.draw, self.full.queue, 32);
+                lengths.queue = shorter(self.draw, self.full.queue, EVENT_BYTES);
                 Deep::ShortQueue
             }
             _ => {
-                lengths.send = shorter(self.draw, self.full.send, 16);
+                lengths.send = shorter(self.draw, self.full.send, MESSAGE_BYTES);
                 Deep::ShortSend
             }
         };
@@ -209,8 +216,12 @@ impl<'run> Session<'run> {
         let seed = self.draw.next();
         self.sides.write_tables(|queue, send| {
             let mut draw = Draw::new(seed);
-            queue.chunks_exact_mut(32).for_each(|slot| slot.copy_from_slice(&making::event_record(&mut draw)));
-            send.chunks_exact_mut(16).for_each(|slot| slot.copy_from_slice(&making::message_record(&mut draw)));
+            for slot in queue.chunks_exact_mut(EVENT_BYTES) {
+                slot.copy_from_slice(&making::event_record(&mut draw));
+            }
+            for slot in send.chunks_exact_mut(MESSAGE_BYTES) {
+                slot.copy_from_slice(&making::message_record(&mut draw));
+            }
         });
     }
 
@@ -285,10 +296,10 @@ impl<'run> Session<'run> {
         let states = [
             (queue.count == queue.capacity, Deep::QueueFull),
             (queue.first + queue.count > queue.capacity, Deep::QueueWrapped),
-            (queue.count == 2_048, Deep::LargestQueueFull),
+            (queue.count == LARGEST_QUEUE, Deep::LargestQueueFull),
             (buffer.count == buffer.capacity, Deep::BufferFull),
             (buffer.first + buffer.count > buffer.capacity, Deep::BufferWrapped),
-            (buffer.count == 1_024, Deep::LargestBufferFull),
+            (buffer.count == LARGEST_SEND_BUFFER, Deep::LargestBufferFull),
             (now.send.register.is_some(), Deep::RegisterHeld),
         ];
         states.iter().filter(|(met, _)| *met).for_each(|(_, deep)| self.tally.deep(*deep));
@@ -311,7 +322,7 @@ impl<'run> Session<'run> {
 
     /// The lost count in the slot that a read took.
     fn read_lost(&self, was: &Device) -> u32 {
-        let slot = 32 * was.receive.ring.first as usize;
+        let slot = EVENT_BYTES * was.receive.ring.first as usize;
         crate::state::word_at(self.sides.second.queue.part(), slot + 12)
     }
 }

@@ -5,14 +5,15 @@
 use crate::draw::Draw;
 use crate::making;
 use crate::measured::{Beds, Row, Turn, CALLS, MIXED, RAISE, RAISE_STRICT};
-use independent::Device;
+use independent::bench::INPUT_LIMIT;
+use independent::{Device, LARGEST_QUEUE, LARGEST_SEND_BUFFER};
 use std::fs::{self, File};
 use std::path::Path;
 use std::process::{Command, Stdio};
 use std::time::Instant;
 
 /// Queue and send buffer, which holds at most 1,024.
-const CAPACITIES: [(u32, u32); 3] = [(1, 1), (200, 200), (2_048, 1_024)];
+const CAPACITIES: [(u32, u32); 3] = [(1, 1), (200, 200), (LARGEST_QUEUE, LARGEST_SEND_BUFFER)];
 
 /// What is measured, by name.
 const ROWS: [(&str, Row); 7] = [
@@ -62,7 +63,7 @@ pub fn table(rounds: usize, program: &str, second: &str) {
 fn bench_row(rounds: usize, programs: [&str; 2]) {
     let mut draw = Draw::new(7);
     let mut input = Vec::new();
-    while input.len() < 65_536 {
+    while input.len() < INPUT_LIMIT {
         let message = making::message_to_send(&mut draw, &Device::default(), false);
         input.extend_from_slice(crate::texts::plain_line(&message).as_bytes());
     }

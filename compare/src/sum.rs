@@ -4,7 +4,7 @@
 use crate::call::{is_refusal, Call};
 use crate::state::word_at;
 use independent::numbers::RECORDED;
-use independent::{Device, Message, Ring};
+use independent::{Device, Message, Ring, EVENT_BYTES};
 
 #[derive(Default)]
 pub struct Sum {
@@ -21,7 +21,7 @@ pub struct Found {
 
 impl Found {
     pub fn before(device: &Device, queue: &[u8]) -> Found {
-        let oldest = 32 * device.receive.ring.first as usize;
+        let oldest = EVENT_BYTES * device.receive.ring.first as usize;
         let lost = word_at(queue, oldest + 12);
         Found { device: *device, lost }
     }
@@ -48,7 +48,7 @@ pub fn raised(call: &Call, was: &Device, now: &Device) -> Option<(u32, Message)>
 fn is_past(device: &Device, code: u32, frame: &Message) -> bool {
     let mut asked = *device;
     asked.receive.ring = Ring { capacity: 1, first: 0, count: 0 };
-    asked.raise(code, 0, frame, &mut [0; 32]) == RECORDED
+    asked.raise(code, 0, frame, &mut [0; EVENT_BYTES]) == RECORDED
 }
 
 impl Sum {
@@ -68,7 +68,7 @@ impl Sum {
     /// None if the sum holds; the queued events' lost counts are read from the table's bytes.
     pub fn wrong(&self, device: &Device, queue: &[u8]) -> Option<String> {
         let ring = device.receive.ring;
-        let slots = (0..ring.count).map(|p| 32 * ((ring.first + p) % ring.capacity) as usize);
+        let slots = (0..ring.count).map(|p| EVENT_BYTES * ((ring.first + p) % ring.capacity) as usize);
         let queued_lost: u64 = slots.map(|slot| u64::from(word_at(queue, slot + 12))).sum();
         let (queued, pending) = (u64::from(ring.count), u64::from(device.receive.pending));
         let sum = self.read + queued + self.lost + queued_lost + pending;

@@ -27,6 +27,7 @@ mod settings;
 mod text;
 
 pub use device::{Device, ReceiveSide, SendSide, Shared};
+pub use lines::{EVENT_ROOM, MESSAGE_ROOM};
 pub use records::{Message, EVENT_BYTES, MESSAGE_BYTES};
 pub use ring::Ring;
-pub use settings::Settings;
+pub use settings::{Settings, LARGEST_QUEUE, LARGEST_SEND_BUFFER};

@@ -2,8 +2,8 @@
 
 use crate::ids::{EXTENDED, STANDARD};
 
-const LARGEST_QUEUE: u32 = 2_048;
-const LARGEST_SEND_BUFFER: u32 = 1_024;
+pub const LARGEST_QUEUE: u32 = 2_048;
+pub const LARGEST_SEND_BUFFER: u32 = 1_024;
 
 /// Event mask bits 0 to 11; bits 12 to 31 must be 0.
 const EVENT_MASK_BITS: u32 = 0xFFF;

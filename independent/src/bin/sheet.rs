@@ -3,7 +3,7 @@
 
 use std::io::Write;
 
-use independent::{Device, Message, Settings, EVENT_BYTES, MESSAGE_BYTES};
+use independent::{Device, Message, Settings, EVENT_BYTES, EVENT_ROOM, MESSAGE_BYTES, MESSAGE_ROOM};
 
 const RECEIVED: u32 = 1;
 const STANDARD: u32 = 1;
@@ -107,7 +107,7 @@ fn texts() -> Vec<String> {
 
 fn shown(said: &str, align: u32) -> String {
     let bed = Bed::open(Settings { align, ..SETTINGS });
-    let mut out = [0; 37];
+    let mut out = [0; MESSAGE_ROOM];
     let (_, length) = bed.device.print_message(&frame(0x731, 0, &[]), &mut out);
     format!("{said} => {}", String::from_utf8_lossy(&out[..length]))
 }
@@ -214,7 +214,7 @@ fn event_line() -> Vec<String> {
     bed.read();
     bed.raise(12_568, &frame(0x112, 1, &[]));
     let (refused, _) = bed.device.read_text(&bed.queue, &mut [0; 79]);
-    let mut room = [0; 80];
+    let mut room = [0; EVENT_ROOM];
     let (good, length) = bed.device.read_text(&bed.queue, &mut room);
     let line = String::from_utf8_lossy(&room[..length]);
     vec![
