@@ -200,12 +200,6 @@ module _ (s : List ℕ) {d : Device} (e : d ≡ deviceIn s) {k n : ℕ} {t : Lis
 
   -- so for each kind of answer r of an outcome o
   module _ (o : Outcome) where
-    pub answer-counted : {r : Answer} → Counts d (o .device) → r ≡ answerOf o
-        → Left k (counted (deviceIn s) (r .device .receive .ring .count) (r .device .receive .pending)) s n t
-        → Left k (r .device) s n t
-    answer-counted {r} m a w =
-        counted-left (r .device) (subst (λ (x : Answer). Counts d (x .device)) (sym a) m) refl refl w
-
     pub answer-advanced : {r : Answer} → Advances d (o .device) → r ≡ answerOf o
         → Left k (advanced (deviceIn s) (r .device .receive .ring .first) (r .device .receive .ring .count)) s n t
         → Left k (r .device) s n t
