@@ -14,7 +14,7 @@ use Rattle.messages.specs.declared.Message.{Message}
 use Rattle.events.specs.declared.Event.{Event}
 use Rattle.message_text.specs.Printing.{messageLine, messageRefusal, messageRecordRefusal}
 use Rattle.event_text.specs.Lines.{eventLine, eventRecordRefusal}
-use Rattle.settings.specs.Ranges.{goodShared}
+use Rattle.settings.specs.Ranges.{goodShared, withMode, withFormat}
 use Rattle.settings.specs.declared.Shared.{Shared}
 use Rattle.settings.specs.declared.Settings.{Settings}
 use Rattle.model.specs.Said.{Said, says, prints}
@@ -80,10 +80,8 @@ does i (raise code tick m) b =
     pick (eqb (frameRefusal code m) 0)
     (steps (says (r .number)) (box (b .shared) (r .inbox) (b .outbox)))
     (steps (says (frameRefusal code m)) b)
-does i (setMode mode tick) b =
-    changes (record { mode = mode; format = b .shared .format; align = b .shared .align }) tick i b
-does i (setFormat format tick) b =
-    changes (record { mode = b .shared .mode; format = format; align = b .shared .align }) tick i b
+does i (setMode mode tick) b = changes (withMode (b .shared) mode) tick i b
+does i (setFormat format tick) b = changes (withFormat (b .shared) format) tick i b
 
 -- ---- the calls that print under the Align
 

@@ -12,7 +12,7 @@ use Rattle.messages.specs.Records.{noMessage}
 use Rattle.events.specs.Records.{holdsFrame}
 use Rattle.events.specs.Raised.{eventOf, frameRefusal}
 use Rattle.messages.specs.declared.Message.{Message}
-use Rattle.settings.specs.Ranges.{goodShared}
+use Rattle.settings.specs.Ranges.{goodShared, withMode, withFormat}
 use Rattle.settings.specs.declared.Shared.{Shared}
 use Rattle.queue.specs.Channel.{queueFits}
 use Rattle.inbox.specs.Refusals.{ready, raiseRefusal}
@@ -89,9 +89,9 @@ module _ (d : Device) (q t out : List ℕ) (i : ℕ) (b : Inbox) (o : Outbox) (h
   unfolding outcome step does
   device-agrees (raise code tick m) ty = raise-is code tick m ty
   device-agrees (setMode mode tick) ty =
-      change-is (record { mode = mode; format = d .shared .format; align = d .shared .align }) tick (ty .1)
+      change-is (withMode (d .shared) mode) tick (ty .1)
   device-agrees (setFormat format tick) ty =
-      change-is (record { mode = d .shared .mode; format = format; align = d .shared .align }) tick (ty .1)
+      change-is (withFormat (d .shared) format) tick (ty .1)
 
   -- a line, or its refusal
   print-is : (n : ℕ) (line : List ℕ)

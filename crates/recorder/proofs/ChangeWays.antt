@@ -1,5 +1,5 @@
 -- What each way through set_mode and set_format shows.
-use mathlib.Core.Path.{_≡_, _∙_}
+use mathlib.Core.Path.{_≡_, subst, _∙_}
 use mathlib.Core.Bool.{true, false}
 use mathlib.Core.List.{List, []}
 use Prim.Native.Nat.{ℕ}
@@ -45,3 +45,8 @@ module _ (s : Shared) (tick : ℕ) (d : Device) (l : Lent) where
       let same = no-filter s (d .receive) (eventOf 5 tick noMessage) (l .queue)
       (other-code 5 tick noMessage (λ x. omega arith)) in
       rw (change-0 g h) (record { answer = p ∙ rw (e, ← same); queue-bytes = m .table ∙ rw (← same) })
+
+-- a change to settings s that are the definition's
+pub changed-as : {s t : Shared} (tick : ℕ) (d : Device) (l : Lent) {r : Answer} {queue : List ℕ} → s ≡ t
+    → QueueMet (changed s tick d l) r queue → QueueMet (changed t tick d l) r queue
+changed-as tick d l {r} {queue} e m = subst (λ (x : Shared). QueueMet (changed x tick d l) r queue) e m

@@ -4,7 +4,7 @@ use mathlib.Core.List.{[]}
 use Rattle.common.specs.Choice.{pick}
 use Rattle.messages.specs.Records.{noMessage}
 use Rattle.events.specs.Raised.{eventOf}
-use Rattle.settings.specs.Ranges.{goodShared}
+use Rattle.settings.specs.Ranges.{goodShared, withMode, withFormat}
 use Rattle.settings.specs.declared.Shared.{Shared}
 use Rattle.inbox.specs.Calls as Inbox
 use Rattle.recorder.specs.State.{withShared}
@@ -21,13 +21,11 @@ changed s tick d l =
 
 -- set_mode: the mode alone changes
 abbrev pub modeSet : ℕ → ℕ → Device → Lent → Outcome
-modeSet mode tick d l =
-    changed (record { mode = mode; format = d .shared .format; align = d .shared .align }) tick d l
+modeSet mode tick d l = changed (withMode (d .shared) mode) tick d l
 
 -- set_format: the format alone changes
 abbrev pub formatSet : ℕ → ℕ → Device → Lent → Outcome
-formatSet format tick d l =
-    changed (record { mode = d .shared .mode; format = format; align = d .shared .align }) tick d l
+formatSet format tick d l = changed (withFormat (d .shared) format) tick d l
 
 -- a change of code and mask raises nothing and touches no queued event: 2
 unfoldable pub filterSet : ℕ → ℕ → Device → Lent → Outcome

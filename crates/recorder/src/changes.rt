@@ -37,26 +37,19 @@ fn change(d: Device, s: Shared, tick: u32, queue: &mut [u8]) -> Answer
 pub fn set_mode(d: Device, mode: u32, tick: u32, queue: &mut [u8]) -> Answer
     ensures { λ r. ⌜ QueueMet (modeSet mode tick d (lends (now (queue .entry)) [] [])) r (now (queue .exit)) ⌝ }
 {
-    let shared = d.shared;
-    let s = Shared {
-        mode: mode,
-        format: shared.format,
-        align: shared.align,
-    };
-    change(d, s, tick, queue)
+    change(d, settings::ranges::with_mode(d.shared, mode), tick, queue)
 }
 
 // Sets the default format.
 pub fn set_format(d: Device, format: u32, tick: u32, queue: &mut [u8]) -> Answer
     ensures { λ r. ⌜ QueueMet (formatSet format tick d (lends (now (queue .entry)) [] [])) r (now (queue .exit)) ⌝ }
 {
-    let shared = d.shared;
-    let s = Shared {
-        mode: shared.mode,
-        format: format,
-        align: shared.align,
-    };
-    change(d, s, tick, queue)
+    change(
+        d,
+        settings::ranges::with_format(d.shared, format),
+        tick,
+        queue,
+    )
 }
 
 // Sets code and mask of the filter.

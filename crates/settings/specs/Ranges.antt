@@ -10,6 +10,14 @@ use Rattle.settings.specs.declared.Shared.{Shared}
 unfoldable pub goodShared : Shared → Bool
 goodShared s = leb (s .mode) 1 && leb (s .format) 2 && modeTakes (s .mode) (s .format) && leb (s .align) 3
 
+-- with another mode
+abbrev pub withMode : Shared → ℕ → Shared
+withMode s mode = record { mode = mode; format = s .format; align = s .align }
+
+-- with another default format
+abbrev pub withFormat : Shared → ℕ → Shared
+withFormat s format = record { mode = s .mode; format = format; align = s .align }
+
 -- format 0 is the channel's default format; where that is 0 as well: standard in mode 0, extended in mode 1
 unfoldable pub formatOf : Shared → ℕ → ℕ
 formatOf s format = pick (eqb format 0) (pick (eqb (s .format) 0) (pick (eqb (s .mode) 0) 1 2) (s .format)) format
