@@ -3,8 +3,8 @@ mod input;
 mod page;
 mod sending;
 
+use device::Answer;
 use messages::records::MESSAGE;
-use recorder::Answer;
 use sending::Step;
 ghost use Prim.Native.Nat.{_≤_, _<_};
 

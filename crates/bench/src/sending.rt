@@ -1,8 +1,8 @@
 // One message text, sent and taken again.
+use device::Answer;
+use device::Device;
 use events::records::EVENT;
 use messages::records::MESSAGE;
-use recorder::Answer;
-use recorder::Device;
 use recorder::Taken;
 use recorder::register;
 use settings::Settings;
@@ -33,7 +33,7 @@ fn settings() -> Settings {
 
 // Opens a device; no byte of the tables is written, so that others are lent to the calls.
 pub fn open() -> Answer {
-    recorder::opening::open(settings(), &[0u8; EVENT], &[0u8; MESSAGE])
+    device::opening::open(settings(), &[0u8; EVENT], &[0u8; MESSAGE])
 }
 
 fn step_of(line: Line, used: usize, d: Device) -> Step {

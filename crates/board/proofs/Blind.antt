@@ -14,14 +14,15 @@ use Rattle.inbox.specs.Calls as Inbox
 use Rattle.buffer.specs.Channel.{goodSend}
 use Rattle.outbox.specs.Refusals.{doneRefusal, abortRefusal}
 use Rattle.outbox.specs.Calls as Outbox
-use Rattle.recorder.specs.State.{good}
-use Rattle.recorder.specs.Outcomes.{Lent, Outcome, refuses, queueReady, noted}
+use Rattle.device.specs.State.{good}
+use Rattle.device.specs.Outcomes.{Lent, Outcome, refuses}
+use Rattle.recorder.specs.Outcomes.{queueReady, noted}
 use Rattle.recorder.specs.Receiving.{lifted, onReceiving, raised, recordRead, textRead, lookSaid, through}
 use Rattle.recorder.specs.Changes.{changed, filterSet, eventMaskSet}
 use Rattle.recorder.specs.Register.{carrying, taken, finished, aborted}
 use Rattle.recorder.specs.Sending.{sent, textSent}
 use Rattle.recorder.specs.Printing.{linePrinted}
-use Rattle.recorder.specs.declared.Device.{Device}
+use Rattle.device.specs.declared.Device.{Device}
 use Rattle.model.specs.Inbox.{readRecord, readText, look, setFilter, setEventMask, identifiersThrough}
 use Rattle.model.specs.Outbox.{send, sendText, take, done, abort}
 use Rattle.model.specs.Box.{raise, setMode, setFormat, printMessageRecord, printEventRecord, printMessage, Call}

@@ -7,8 +7,8 @@ use lib.Dec.{eqb}
 use lib.ListN.{length}
 use Rattle.common.proofs.Choices.{pick-is}
 use Rattle.common.specs.Refusals.{isRefusal}
-use Rattle.recorder.specs.Outcomes.{Lent, Outcome}
-use Rattle.recorder.specs.Opening.{opened}
+use Rattle.device.specs.Outcomes.{Lent, Outcome}
+use Rattle.device.specs.Opening.{opened}
 use Rattle.model.specs.Box.{Call}
 use Rattle.promises.proofs.Harmless as Calls
 use Rattle.kept.specs.State.{stateSize, deviceIn, isState}

@@ -20,11 +20,11 @@ use Rattle.inbox.specs.Refusals.{possible, ready, lookRefusal}
 use Rattle.inbox.specs.Calls.{looked, lookedAt}
 use Rattle.inbox.proofs.Laws.{look-free, ready-fits}
 use Rattle.buffer.specs.Channel.{goodSend}
-use Rattle.recorder.specs.State.{good}
-use Rattle.recorder.specs.Outcomes.{Lent, lends, Outcome}
-use Rattle.recorder.specs.Opening.{opened}
+use Rattle.device.specs.State.{good}
+use Rattle.device.specs.Outcomes.{Lent, lends, Outcome}
+use Rattle.device.specs.Opening.{opened}
 use Rattle.recorder.specs.Receiving.{lookSaid}
-use Rattle.recorder.specs.declared.Device.{Device}
+use Rattle.device.specs.declared.Device.{Device}
 use Rattle.model.specs.Said.{Said}
 use Rattle.model.specs.Inbox.{Inbox, look}
 use Rattle.model.specs.Box.{Box, Call, onReceive, step, fresh}
@@ -38,10 +38,11 @@ use Rattle.promises.specs.Stands.{RunStands, Says}
 use Rattle.promises.specs.Stands as Promised
 use Rattle.promises.specs.Promised.{lostBytes, entries}
 use Rattle.promises.proofs.Harmless.{harmless}
-use Rattle.promises.proofs.Opening.{is-opened, opens}
+use Rattle.promises.proofs.Opening.{opens}
 use Rattle.promises.proofs.Answers.{next-stands, answers}
 use Rattle.promises.proofs.Carried.{sum-of-bytes, larger-queue}
-use Rattle.kept.specs.State.{stateSize, receiveAt, stateBytes, word, deviceIn, isState}
+use Rattle.layout.specs.Parts.{word}
+use Rattle.kept.specs.State.{stateSize, receiveAt, stateBytes, deviceIn, isState}
 use Rattle.kept.specs.Handing.{left}
 use Rattle.settings.specs.Given.{settingsSize, settingsIn}
 use Rattle.board.specs.Board.{borrowed, on, called, openedOn}

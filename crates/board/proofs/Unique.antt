@@ -3,7 +3,7 @@
 use mathlib.Core.Path.{_≡_}
 use mathlib.Core.List.{List}
 use Prim.Native.Nat.{ℕ}
-use Rattle.recorder.specs.Outcomes.{Lent, Outcome}
+use Rattle.device.specs.Outcomes.{Lent, Outcome}
 use Rattle.recorder.proofs.Unique.{alike}
 use Rattle.board.specs.Board.{Called, CalledWith}
 

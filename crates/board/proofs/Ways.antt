@@ -26,15 +26,16 @@ use Rattle.queue.proofs.Laws.{built}
 use Rattle.buffer.specs.Channel.{goodSend, sendFits}
 use Rattle.outbox.specs.Refusals.{possible, takeRefusal, abortRefusal}
 use Rattle.outbox.specs.Calls as Outbox
-use Rattle.recorder.specs.State.{good, fresh, noDevice, withReceive}
-use Rattle.recorder.specs.Outcomes.{Lent, Outcome, lends, refuses, answerOf, recordOf, throughOf, QueueMet, SendMet}
-use Rattle.recorder.specs.Outcomes.{OutMet, TakeMet, PrintMet, withQueue, withTable}
-use Rattle.recorder.specs.Opening.{opened}
+use Rattle.device.specs.State.{good, fresh, noDevice, withReceive}
+use Rattle.device.specs.Outcomes.{Lent, Outcome, lends, refuses, answerOf}
+use Rattle.recorder.specs.Outcomes.{recordOf, throughOf, QueueMet, SendMet, OutMet, TakeMet, PrintMet, withQueue}
+use Rattle.recorder.specs.Outcomes.{withTable}
+use Rattle.device.specs.Opening.{opened}
 use Rattle.recorder.specs.Receiving.{raised, raisedOn, recordRead, textRead, lookSaid, through}
 use Rattle.recorder.specs.Register.{carrying, taken, aborted}
 use Rattle.recorder.specs.Printing.{linePrinted}
-use Rattle.recorder.specs.declared.Device.{Device}
-use Rattle.recorder.specs.declared.Answer.{Answer}
+use Rattle.device.specs.declared.Device.{Device}
+use Rattle.device.specs.declared.Answer.{Answer}
 use Rattle.recorder.specs.declared.Record.{Record}
 use Rattle.recorder.specs.declared.Taken.{Taken}
 use Rattle.recorder.specs.declared.Through.{Through}

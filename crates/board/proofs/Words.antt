@@ -11,8 +11,8 @@ use borrow.Author.Tests.{eqb-true, eq-eqb, le-leb, leb-true, ltb-true}
 use Rattle.common.specs.Choice.{pick}
 use Rattle.common.proofs.Bools.{and-left, and-right}
 use Rattle.common.proofs.RingFacts.{good-ring}
-use Rattle.ids.specs.Filters.{modeTakes}
-use Rattle.ids.specs.EventMask.{isMask}
+use Rattle.filters.specs.Filters.{modeTakes}
+use Rattle.filters.specs.EventMask.{isMask}
 use Rattle.ids.proofs.Frames.{good-header, good-id, good-format}
 use Rattle.messages.specs.declared.Message.{Message}
 use Rattle.messages.proofs.RoundTrip.{good-refusal}
@@ -23,15 +23,16 @@ use Rattle.queue.specs.Channel.{queueLimit}
 use Rattle.queue.specs.declared.Receive.{Receive}
 use Rattle.buffer.specs.Channel.{sendLimit}
 use Rattle.buffer.specs.declared.Send.{Send}
-use Rattle.recorder.specs.declared.Device.{Device}
+use Rattle.device.specs.declared.Device.{Device}
 use Rattle.model.specs.Inbox.{Inbox}
 use Rattle.model.specs.Outbox.{Outbox}
 use Rattle.model.specs.Box.{Box}
 use Rattle.promises.specs.Typed.{Word}
 use Rattle.promises.specs.Stands.{All, Receives, Register, Sends, Stands}
-use Rattle.kept.specs.State.{sharedNumbers, receiveNumbers, sendNumbers, stateNumbers, wordBytes, stateBytes, word}
-use Rattle.kept.specs.State.{stateSize, deviceIn, isState}
-use Rattle.kept.proofs.RoundTrip.{word-words, device-back}
+use Rattle.layout.specs.Parts.{sharedNumbers, receiveNumbers, sendNumbers, wordBytes, word}
+use Rattle.kept.specs.State.{stateNumbers, stateBytes, stateSize, deviceIn, isState}
+use Rattle.layout.proofs.RoundTrip.{word-words}
+use Rattle.kept.proofs.RoundTrip.{device-back}
 
 -- ---- lists of 32-bit numbers
 

@@ -7,10 +7,10 @@ use lib.ListN.{length}
 use lib.Dec.{eqb}
 use Rattle.common.specs.Choice.{pick}
 use Rattle.settings.specs.Given.{settingsSize, settingsIn}
-use Rattle.recorder.specs.State.{noDevice}
-use Rattle.recorder.specs.Outcomes.{Lent, Outcome, lends, ends, refuses}
-use Rattle.recorder.specs.Opening.{opened}
-use Rattle.recorder.specs.declared.Device.{Device}
+use Rattle.device.specs.State.{noDevice}
+use Rattle.device.specs.Outcomes.{Lent, Outcome, lends, ends, refuses}
+use Rattle.device.specs.Opening.{opened}
+use Rattle.device.specs.declared.Device.{Device}
 use Rattle.model.specs.Inbox.{ReceiveCall, readRecord, readText, look, setFilter, setEventMask, identifiersThrough}
 use Rattle.model.specs.Outbox.{SendCall, send, sendText, take, done, abort}
 use Rattle.model.specs.Box.{Call, onDevice, onReceive, onSend, onAlign}

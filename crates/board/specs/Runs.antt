@@ -2,7 +2,7 @@
 -- nothing else writes them.
 use Prim.Native.Nat.{ℕ, _+_}
 use mathlib.Core.List.{List, [], _∷_, _++_}
-use Rattle.recorder.specs.Outcomes.{Lent, lends, Outcome}
+use Rattle.device.specs.Outcomes.{Lent, lends, Outcome}
 use Rattle.model.specs.Said.{Said}
 use Rattle.promises.specs.Typed.{Made}
 use Rattle.promises.specs.Runs.{Run, readOut}

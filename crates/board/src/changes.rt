@@ -1,6 +1,6 @@
 // Changes of setting.
 ghost use mathlib.Core.List.{[]};
-ghost use Rattle.recorder.specs.Outcomes.{Outcome, lends};
+ghost use Rattle.device.specs.Outcomes.{Outcome, lends};
 ghost use Rattle.model.specs.Inbox.{setFilter, setEventMask};
 ghost use Rattle.model.specs.Box.{onDevice, onReceive, setMode, setFormat};
 ghost use Rattle.board.specs.Board.{called, Called};

@@ -1,7 +1,7 @@
 // Opening a device into a state.
 ghost use mathlib.Core.Path.{_≡_};
 ghost use mathlib.Core.List.{[]};
-ghost use Rattle.recorder.specs.Outcomes.{Lent, lends};
+ghost use Rattle.device.specs.Outcomes.{Lent, lends};
 ghost use Rattle.board.specs.Board.{openedOn, Called};
 
 // Opens a device over two tables, of which no byte is written.
@@ -15,7 +15,7 @@ pub extern "C" fn sv_open(state: &mut [u8], settings: &[u32], queue: &[u8], send
         return 1;
     }
     let given = settings::given::settings_in(settings);
-    let r = recorder::opening::open(given, queue, send);
+    let r = device::opening::open(given, queue, send);
     if r.number != 0 {
         return r.number;
     }

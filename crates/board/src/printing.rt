@@ -1,6 +1,6 @@
 // The print calls: they take Align from the channel and change no state.
 ghost use mathlib.Core.List.{[]};
-ghost use Rattle.recorder.specs.Outcomes.{Outcome, lends};
+ghost use Rattle.device.specs.Outcomes.{Outcome, lends};
 ghost use Rattle.model.specs.Box.{onAlign, printMessageRecord, printEventRecord, printMessage};
 ghost use Rattle.kept.specs.Handing.{message};
 ghost use Rattle.board.specs.Board.{called, CalledWith};

@@ -4,7 +4,7 @@ use events::records::EVENT;
 ghost use mathlib.Core.Path.{_≡_};
 ghost use mathlib.Core.List.{[]};
 ghost use Rattle.inbox.specs.Calls.{lookedAt};
-ghost use Rattle.recorder.specs.Outcomes.{Outcome, lends};
+ghost use Rattle.device.specs.Outcomes.{Outcome, lends};
 ghost use Rattle.model.specs.Inbox.{readRecord, readText, look, identifiersThrough};
 ghost use Rattle.model.specs.Box.{onDevice, onReceive, raise};
 ghost use Rattle.kept.specs.State.{deviceIn};
@@ -29,7 +29,7 @@ pub extern "C" fn sv_raise(
         (now (state .entry)) (lends (now (queue .entry)) [] []) in
         ⌜ Called o (now (state .entry)) n (now (state .exit)) (lends (now (queue .exit)) [] []) ⌝ }
 {
-    if !kept::judging::is_possible(state) {
+    if !kept::state::is_possible(state) {
         return 2;
     }
     let d = kept::state::device_in(state);

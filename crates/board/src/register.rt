@@ -1,7 +1,7 @@
 // The transmit register: take, done and abort.
 use messages::records::MESSAGE;
 ghost use mathlib.Core.List.{[]};
-ghost use Rattle.recorder.specs.Outcomes.{Outcome, lends};
+ghost use Rattle.device.specs.Outcomes.{Outcome, lends};
 ghost use Rattle.model.specs.Outbox.{take, done, abort};
 ghost use Rattle.model.specs.Box.{onSend};
 ghost use Rattle.board.specs.Board.{called, Called, CalledWith};

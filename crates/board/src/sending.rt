@@ -1,7 +1,7 @@
 // Sending a message, binary or as text.
 ghost use mathlib.Core.List.{[]};
 ghost use mathlib.Core.Path.{_≡_};
-ghost use Rattle.recorder.specs.Outcomes.{Outcome, lends};
+ghost use Rattle.device.specs.Outcomes.{Outcome, lends};
 ghost use Rattle.model.specs.Outbox as Outbox;
 ghost use Rattle.model.specs.Box.{onSend};
 ghost use Rattle.kept.specs.Handing.{message};

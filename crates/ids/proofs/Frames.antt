@@ -11,7 +11,7 @@ use Rattle.common.specs.Choice.{pick}
 use Rattle.ids.specs.Ids.{isFormat, idBits}
 use Rattle.ids.specs.Frames.{headerRefusal, carried}
 use Rattle.ids.specs.declared.Header.{Header}
-use Rattle.ids.proofs.Fields.{pick-le, bits-le}
+use Rattle.ids.proofs.Columns.{pick-le, bits-le}
 
 -- no frame carries more than eight bytes
 pub carried-le : (h : Header) → carried h ≤ 8

@@ -1,7 +1,4 @@
 pub mod Bits
-pub mod Fields
-mod Open
+pub mod Columns
 pub mod Frames
-pub mod EventMask
 pub mod RoundTrip
-pub mod Counting

@@ -11,7 +11,7 @@ use Rattle.common.specs.Choice.{pick}
 use Rattle.common.proofs.Bools.{and-left, and-right}
 use Rattle.ids.specs.Ids.{isFormat, idBits, idLow, aligned, rawOf}
 use Rattle.ids.specs.declared.Id.the-variants.{Good, Bad}
-use Rattle.ids.proofs.Fields.{id-in-word}
+use Rattle.ids.proofs.Columns.{id-in-word}
 
 -- a raw identifier within its 11 or 29 bits is shown shifted into its field
 pub good-aligned : (align f raw : ℕ) → align ≤ 3 → isFormat f ≡ true → raw < 2 ^ idBits f

@@ -1,5 +1,2 @@
 pub mod Ids
 pub mod Frames
-pub mod Filters
-pub mod EventMask
-pub mod Counting

@@ -1,7 +1,5 @@
-// Identifiers under an Align, a frame's header, the acceptance filter and the event mask.
-pub mod acceptance;
+// Identifiers under an Align, and a frame's header.
 pub mod align;
-pub mod event_mask;
 pub mod frame;
 
 // A frame's header: its data bytes stand beside it. Any numbers; `frame::header_refusal` judges them.
@@ -10,13 +8,6 @@ pub struct Header {
     pub format: u32,
     pub rtr: u32,
     pub dlc: u32,
-}
-
-// A receive channel's acceptance filter: MaskActive, code and mask.
-pub struct Filter {
-    pub active: u32,
-    pub code: u32,
-    pub mask: u32,
 }
 
 // An identifier carried over to the other form, or a bad one.

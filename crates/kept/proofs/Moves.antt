@@ -5,7 +5,7 @@ use Prim.Native.Nat.{ℕ}
 use lib.ListN.{length}
 use lib.Dec.{ltb, eqb}
 use Rattle.common.proofs.Choices.{pick-is}
-use Rattle.ids.specs.EventMask.{maskLets}
+use Rattle.filters.specs.EventMask.{maskLets}
 use Rattle.events.specs.Records.{codeOf}
 use Rattle.events.specs.declared.Event.{Event}
 use Rattle.messages.specs.declared.Message.{Message}
@@ -22,11 +22,12 @@ use Rattle.outbox.specs.Refusals.{takeRefusal, doneRefusal, abortRefusal}
 use Rattle.outbox.specs.Calls as Outbox
 use Rattle.outbox.specs.declared.Raised.{Raised}
 use Rattle.buffer.specs.declared.Send.{Send}
-use Rattle.recorder.specs.Outcomes.{Lent, Outcome, answerOf, recordOf, takenOf}
+use Rattle.device.specs.Outcomes.{Lent, Outcome, answerOf}
+use Rattle.recorder.specs.Outcomes.{recordOf, takenOf}
 use Rattle.recorder.specs.Receiving.{raised, recordRead, textRead}
 use Rattle.recorder.specs.Register.{carriedOver, carrying, taken, finished, aborted}
-use Rattle.recorder.specs.declared.Device.{Device}
-use Rattle.recorder.specs.declared.Answer.{Answer}
+use Rattle.device.specs.declared.Device.{Device}
+use Rattle.device.specs.declared.Answer.{Answer}
 use Rattle.recorder.specs.declared.Record.{Record}
 use Rattle.recorder.specs.declared.Taken.{Taken}
 use Rattle.kept.specs.State.{deviceIn, counted, advanced, transferred}

@@ -5,7 +5,7 @@ use mathlib.Core.List.{List}
 use Rattle.common.specs.Choice.{pick}
 use Rattle.common.specs.Refusals.{isRefusal}
 use Rattle.messages.specs.declared.Message.{Message}
-use Rattle.recorder.specs.declared.Device.{Device}
+use Rattle.device.specs.declared.Device.{Device}
 use Rattle.kept.specs.State.{stateBytes}
 
 -- what stands in a lent place after a call that answers n: beside a refusal what stood there, else the new

@@ -1,13 +1,13 @@
 // What a call hands over and leaves: the next device and its values, unless it was refused; and its message.
-use crate::parts;
 use crate::state;
-use crate::words;
 use buffer::Send;
+use device::Device;
 use events::records::EVENT;
 use ids::Header;
+use layout::parts;
+use layout::words;
 use messages::Message;
 use messages::records::MESSAGE;
-use recorder::Device;
 ghost use mathlib.Core.Path.{_≡_};
 ghost use mathlib.Core.Bool.{true};
 ghost use lib.ListN.{length};

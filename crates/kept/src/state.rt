@@ -1,10 +1,11 @@
-// The whole state: is it one, the device that it stands for, and writing a device.
-use crate::parts;
-use crate::words;
-use recorder::Device;
+// The whole state: is it one, is its device possible, the device that it stands for, and writing a device.
+use device::Device;
+use layout::judging;
+use layout::parts;
+use layout::words;
 ghost use mathlib.Core.Path.{_≡_};
 ghost use lib.ListN.{length};
-ghost use Rattle.kept.specs.State.{stateSize, stateBytes, deviceIn, isState};
+ghost use Rattle.kept.specs.State.{stateSize, stateBytes, deviceIn, isState, isPossible};
 
 // The bytes of a state, and where its second and third part begin.
 pub const STATE: usize = 88;
@@ -21,6 +22,25 @@ pub fn is_state(s: &[u8]) -> bool
         return false;
     }
     words::word(s, SEND + 16) <= 1
+}
+
+// The bytes are a state whose device is possible, each part judged in place.
+pub fn is_possible(s: &[u8]) -> bool
+    ensures { λ ok. ⌜ ok ≡ isPossible (now (s .entry)) ⌝ }
+{
+    if s.len() != STATE {
+        return false;
+    }
+    if !judging::is_shared(s, 0) {
+        return false;
+    }
+    if !judging::is_receive(s, RECEIVE) {
+        return false;
+    }
+    if !judging::is_buffer(s, SEND) {
+        return false;
+    }
+    judging::is_register(s, SEND + 16)
 }
 
 // The device that a state stands for.

@@ -11,7 +11,7 @@ use Rattle.common.specs.Choice.{pick}
 use Rattle.common.proofs.Bools.{apart}
 use Rattle.ids.specs.Ids.{isFormat, idBits, idLow, rawOf, isBad, idNumber}
 use Rattle.ids.specs.declared.Id.the-variants.{Good, Bad}
-use Rattle.ids.proofs.Fields.{id-in-word}
+use Rattle.ids.proofs.Columns.{id-in-word}
 use Rattle.digits.specs.Reading.{capped}
 use Rattle.digits.proofs.Capped.{capped-cong}
 

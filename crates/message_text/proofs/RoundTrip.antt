@@ -20,7 +20,7 @@ use Rattle.ids.specs.Ids.{idBits, idLow, rawOf}
 use Rattle.ids.specs.Frames.{headerRefusal, carried, shownId}
 use Rattle.ids.specs.declared.Header.{Header}
 use Rattle.ids.specs.declared.Id.the-variants.{Good}
-use Rattle.ids.proofs.Fields.{id-in-word}
+use Rattle.ids.proofs.Columns.{id-in-word}
 use Rattle.ids.proofs.Frames.{HeaderFacts, good-header, carried-le}
 use Rattle.ids.proofs.RoundTrip.{good-aligned, read-back}
 use Rattle.messages.specs.Records.{goodMessage}

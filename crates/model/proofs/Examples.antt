@@ -4,9 +4,9 @@ use mathlib.Core.Path.{_≡_, refl}
 use mathlib.Core.List.{List, [], _∷_, map}
 use lib.ListN.{replicate}
 use Rattle.ids.specs.Ids.{rawOf, idLow, idBits, isFormat}
-use Rattle.ids.specs.Filters.{modeTakes}
+use Rattle.filters.specs.Filters.{modeTakes}
 use Rattle.ids.specs.Frames.{carried}
-use Rattle.ids.specs.EventMask.{maskLets, maskBit}
+use Rattle.filters.specs.EventMask.{maskLets, maskBit}
 use Rattle.events.specs.Records.{holdsFrame, kindOf, stamped}
 use Rattle.messages.specs.Records.{noMessage, stored}
 use Rattle.events.specs.Raised.{eventOf, filtered}

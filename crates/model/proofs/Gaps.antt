@@ -10,7 +10,7 @@ use lib.Dec.{ltb, eqb}
 use Rattle.common.specs.Choice.{pick}
 use Rattle.common.proofs.Bools.{apart}
 use Rattle.common.proofs.Choices.{by-test, pick-is}
-use Rattle.ids.specs.EventMask.{maskLets}
+use Rattle.filters.specs.EventMask.{maskLets}
 use Rattle.events.specs.Records.{codeOf, stamped}
 use Rattle.events.specs.Raised.{frameRefusal, eventOf, filtered}
 use Rattle.events.specs.declared.Event.{Event}

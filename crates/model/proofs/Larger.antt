@@ -11,8 +11,8 @@ use borrow.Author.Tests.{ltb-true, ltb-false}
 use Rattle.common.specs.Choice.{pick}
 use Rattle.common.specs.Sublist.{none, keep, skip}
 use Rattle.common.proofs.Sublists.{sublist-append}
-use Rattle.ids.specs.EventMask.{maskLets, isMask}
-use Rattle.ids.specs.declared.Filter.{Filter}
+use Rattle.filters.specs.EventMask.{maskLets, isMask}
+use Rattle.filters.specs.declared.Filter.{Filter}
 use Rattle.events.specs.Records.{codeOf}
 use Rattle.messages.specs.Records.{noMessage}
 use Rattle.events.specs.Raised.{filtered, frameRefusal, eventOf}

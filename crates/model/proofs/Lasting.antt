@@ -7,7 +7,7 @@ use lib.ListN.{length}
 use lib.Dec.{ltb, eqb}
 use borrow.Author.Tests.{ltb-true, ltb-false}
 use Rattle.common.proofs.Choices.{pick-is}
-use Rattle.ids.specs.EventMask.{maskLets, isMask}
+use Rattle.filters.specs.EventMask.{maskLets, isMask}
 use Rattle.events.specs.Records.{codeOf}
 use Rattle.messages.specs.Records.{noMessage}
 use Rattle.events.specs.Raised.{filtered, frameRefusal, eventOf}

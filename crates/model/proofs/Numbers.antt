@@ -10,7 +10,7 @@ use Rattle.common.specs.Numbers.{among}
 use Rattle.common.proofs.Bools.{apart, and-left, and-right}
 use Rattle.common.proofs.Choices.{by-test}
 use Rattle.ids.specs.Ids.{isFormat, idBits, rawOf, isBad}
-use Rattle.ids.specs.Filters.{modeTakes}
+use Rattle.filters.specs.Filters.{modeTakes}
 use Rattle.ids.specs.Frames.{headerRefusal}
 use Rattle.ids.specs.declared.Header.{Header}
 use Rattle.events.specs.Records.{holdsFrame}

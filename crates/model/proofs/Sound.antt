@@ -14,8 +14,8 @@ use Rattle.common.proofs.Bools.{apart, and-right}
 use Rattle.common.proofs.Choices.{pick-is}
 use Rattle.ids.specs.Ids.{isFormat}
 use Rattle.ids.specs.Frames.{headerRefusal}
-use Rattle.ids.specs.Filters.{modeTakes}
-use Rattle.ids.specs.EventMask.{isMask}
+use Rattle.filters.specs.Filters.{modeTakes}
+use Rattle.filters.specs.EventMask.{isMask}
 use Rattle.messages.specs.Records.{isMessage, messageIn}
 use Rattle.events.specs.Records.{isEvent, eventIn}
 use Rattle.events.specs.Raised.{frameRefusal}

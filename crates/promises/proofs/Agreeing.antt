@@ -10,7 +10,7 @@ use lib.ListN.{length, drop}
 use lib.Dec.{ltb}
 use Rattle.common.specs.Choice.{pick}
 use Rattle.common.proofs.Bools.{apart}
-use Rattle.ids.specs.EventMask.{maskLets}
+use Rattle.filters.specs.EventMask.{maskLets}
 use Rattle.messages.specs.Records.{goodMessage}
 use Rattle.events.specs.Records.{eventSize, codeOf, stamped}
 use Rattle.events.specs.Raised.{filtered}
@@ -25,9 +25,10 @@ use Rattle.inbox.specs.Calls as Queue
 use Rattle.queue.specs.declared.Receive.{Receive}
 use Rattle.buffer.specs.Channel.{goodSend}
 use Rattle.buffer.specs.declared.Send.{Send}
-use Rattle.recorder.specs.State.{good}
-use Rattle.recorder.specs.Outcomes.{lends, Outcome, ends, met, noted}
-use Rattle.recorder.specs.declared.Device.{Device}
+use Rattle.device.specs.State.{good}
+use Rattle.device.specs.Outcomes.{lends, Outcome, ends}
+use Rattle.recorder.specs.Outcomes.{met, noted}
+use Rattle.device.specs.declared.Device.{Device}
 use Rattle.model.specs.Said.{Said}
 use Rattle.model.specs.Inbox.{Kept, keeps, Inbox, recording, losing, Met, meets, arrival}
 use Rattle.model.specs.Outbox.{Outbox}

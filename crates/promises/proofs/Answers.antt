@@ -8,7 +8,7 @@ use lib.ListN.{length}
 use lib.Dec.{ltb, eqb}
 use Rattle.common.specs.Choice.{pick}
 use Rattle.common.proofs.Choices.{pick-is}
-use Rattle.ids.specs.EventMask.{maskLets, isMask}
+use Rattle.filters.specs.EventMask.{maskLets, isMask}
 use Rattle.messages.specs.Records.{messageBytes, noMessage}
 use Rattle.events.specs.Records.{eventSize, codeOf, eventBytes}
 use Rattle.events.specs.Raised.{frameRefusal, eventOf, filtered}
@@ -18,16 +18,16 @@ use Rattle.settings.specs.Ranges.{goodShared}
 use Rattle.settings.specs.declared.Settings.{Settings}
 use Rattle.settings.specs.declared.Shared.{Shared}
 use Rattle.queue.specs.Channel.{queueLimit}
-use Rattle.recorder.specs.Outcomes.{Lent, lends, Outcome}
-use Rattle.recorder.specs.Opening.{opened}
-use Rattle.recorder.specs.declared.Device.{Device}
+use Rattle.device.specs.Outcomes.{Lent, lends, Outcome}
+use Rattle.device.specs.Opening.{opened}
+use Rattle.device.specs.declared.Device.{Device}
 use Rattle.model.specs.Said.{Said, says, saysZeros, hands, prints}
 use Rattle.model.specs.Inbox.{Kept, Inbox, Met, arrival, ReceiveCall, readRecord, readText, look, setFilter}
 use Rattle.model.specs.Inbox.{setEventMask, identifiersThrough, withFilter, withMask, Received, received, takesOldest}
 use Rattle.model.specs.Inbox.{receives}
-use Rattle.model.specs.Outbox.{Outbox, posts}
-use Rattle.model.specs.Box.{Box, box, Step, DeviceCall, raise, setMode, setFormat, noted, changes, does, Call}
-use Rattle.model.specs.Box.{onDevice, onReceive, onSend, onAlign, step, fresh}
+use Rattle.model.specs.Outbox.{posts}
+use Rattle.model.specs.Box.{Box, box, Step, DeviceCall, raise, setMode, setFormat, noted, does, Call, onDevice}
+use Rattle.model.specs.Box.{onReceive, onSend, onAlign, step, fresh}
 use Rattle.model.specs.Box as Model
 use Rattle.promises.specs.Typed.{Typed, Made, asked, TypedSettings}
 use Rattle.promises.specs.Calls.{outcome}

@@ -13,8 +13,8 @@ use Rattle.events.specs.Records.{stamped}
 use Rattle.events.proofs.RoundTrip.{lost-back, apart-lost}
 use Rattle.settings.specs.Ranges.{goodShared}
 use Rattle.settings.specs.declared.Settings.{Settings}
-use Rattle.recorder.specs.Outcomes.{Lent}
-use Rattle.recorder.specs.Opening.{opened}
+use Rattle.device.specs.Outcomes.{Lent}
+use Rattle.device.specs.Opening.{opened}
 use Rattle.model.specs.Inbox.{Kept, keeps, Inbox}
 use Rattle.model.specs.Outbox.{Outbox}
 use Rattle.model.specs.Box.{Box, fresh}

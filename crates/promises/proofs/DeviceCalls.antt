@@ -18,12 +18,12 @@ use Rattle.queue.specs.Channel.{queueFits}
 use Rattle.inbox.specs.Refusals.{ready, raiseRefusal}
 use Rattle.inbox.specs.Calls as Queue
 use Rattle.buffer.specs.Channel.{goodSend}
-use Rattle.recorder.specs.State.{good, withShared}
-use Rattle.recorder.specs.Outcomes.{Lent, lends, ends}
+use Rattle.device.specs.State.{good, withShared}
+use Rattle.device.specs.Outcomes.{Lent, lends, ends}
 use Rattle.recorder.specs.Receiving.{raised}
 use Rattle.recorder.specs.Changes.{changed}
 use Rattle.recorder.specs.Printing.{linePrinted}
-use Rattle.recorder.specs.declared.Device.{Device}
+use Rattle.device.specs.declared.Device.{Device}
 use Rattle.model.specs.Said.{says}
 use Rattle.model.specs.Inbox.{Inbox}
 use Rattle.model.specs.Outbox.{Outbox}

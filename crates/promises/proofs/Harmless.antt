@@ -12,8 +12,8 @@ use Rattle.common.proofs.Choices.{pick-is}
 use Rattle.common.proofs.Bools.{apart, denied}
 use Rattle.common.proofs.Numbers.{zeros-zero}
 use Rattle.ids.specs.Ids.{isFormat}
-use Rattle.ids.specs.Filters.{letThrough}
-use Rattle.ids.specs.EventMask.{maskLets, isMask}
+use Rattle.filters.specs.Filters.{letThrough}
+use Rattle.filters.specs.EventMask.{maskLets, isMask}
 use Rattle.ids.specs.Frames.{headerRefusal}
 use Rattle.messages.specs.declared.Message.{Message}
 use Rattle.events.specs.Records.{eventSize, codeOf, eventIn, isEvent}
@@ -38,19 +38,20 @@ use Rattle.message_text.specs.Printing.{messageRoom, messageRefusal, messageRec
 use Rattle.message_text.specs.Reading.{usedOf}
 use Rattle.message_text.proofs.Cases.{read-is}
 use Rattle.event_text.specs.Lines.{eventRoom, eventLine, eventRecordRefusal}
-use Rattle.recorder.specs.State.{good, fresh, noDevice, withShared, withReceive}
+use Rattle.device.specs.State.{good, fresh, noDevice, withShared, withReceive}
 use Rattle.settings.specs.Ranges.{goodShared, formatOf}
 use Rattle.settings.specs.Binary.{binaryRefusal}
-use Rattle.recorder.specs.Outcomes.{Lent, Outcome, ends, refuses, queueReady, noted, withQueue}
+use Rattle.device.specs.Outcomes.{Lent, Outcome, ends, refuses}
+use Rattle.recorder.specs.Outcomes.{queueReady, noted, withQueue}
 use Rattle.common.specs.Refusals.{isRefusal}
-use Rattle.recorder.specs.Opening.{opened}
+use Rattle.device.specs.Opening.{opened}
 use Rattle.recorder.specs.Changes.{changed, filterSet, eventMaskSet}
 use Rattle.recorder.specs.Receiving.{raised, recordRead, textRead, lookSaid, through}
 use Rattle.recorder.specs.Receiving as Received
 use Rattle.recorder.specs.Sending.{lifted, sent, textSent}
 use Rattle.recorder.specs.Register.{carriedOver, carrying, taken, finished, aborted}
 use Rattle.recorder.specs.Printing.{linePrinted, messageRecordPrinted, eventRecordPrinted, messagePrinted}
-use Rattle.recorder.specs.declared.Device.{Device}
+use Rattle.device.specs.declared.Device.{Device}
 use Rattle.settings.specs.declared.Shared.{Shared}
 use Rattle.settings.specs.declared.Settings.{Settings}
 use Rattle.recorder.proofs.Ready.{align-in}

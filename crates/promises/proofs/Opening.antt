@@ -9,16 +9,16 @@ use Rattle.common.specs.Choice.{pick}
 use Rattle.common.specs.Rings.{goodRing}
 use Rattle.common.specs.Slots.{ring}
 use Rattle.common.proofs.Bools.{and-left, and-right}
-use Rattle.ids.specs.EventMask.{isMask}
+use Rattle.filters.specs.EventMask.{isMask}
 use Rattle.settings.specs.Ranges.{goodShared}
 use Rattle.settings.specs.TxMode.{goodTx}
 use Rattle.settings.specs.declared.Settings.{Settings}
 use Rattle.queue.specs.Channel.{queueLimit, goodReceive, queueFits}
 use Rattle.buffer.specs.Channel.{sendLimit, goodSend, sendFits}
-use Rattle.recorder.specs.State.{good, fresh, noDevice}
-use Rattle.recorder.specs.Outcomes.{Lent, ends, refuses}
-use Rattle.recorder.specs.Opening.{opened}
-use Rattle.recorder.specs.declared.Device.{Device}
+use Rattle.device.specs.State.{good, fresh, noDevice}
+use Rattle.device.specs.Outcomes.{Lent, ends, refuses}
+use Rattle.device.specs.Opening.{opened}
+use Rattle.device.specs.declared.Device.{Device}
 use Rattle.model.specs.Box as Model
 use Rattle.promises.specs.Typed.{TypedSettings}
 use Rattle.promises.specs.Runs.{started}

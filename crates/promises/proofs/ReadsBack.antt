@@ -27,12 +27,13 @@ use Rattle.queue.specs.Channel.{goodReceive}
 use Rattle.buffer.specs.Channel.{sendLimit, goodSend, sendFits, withRing}
 use Rattle.outbox.specs.Refusals.{possible, ready, putRefusal}
 use Rattle.outbox.specs.Calls as Outbox
-use Rattle.recorder.specs.State.{good, withSend}
-use Rattle.recorder.specs.Outcomes.{Lent, ends, sendReady, withTable, withOut}
-use Rattle.recorder.specs.Opening.{opened}
+use Rattle.device.specs.State.{good, withSend}
+use Rattle.device.specs.Outcomes.{Lent, ends}
+use Rattle.recorder.specs.Outcomes.{sendReady, withTable, withOut}
+use Rattle.device.specs.Opening.{opened}
 use Rattle.recorder.specs.Sending.{textSent}
 use Rattle.recorder.specs.Printing.{linePrinted}
-use Rattle.recorder.specs.declared.Device.{Device}
+use Rattle.device.specs.declared.Device.{Device}
 use Rattle.recorder.proofs.Ready.{receive-good, align-in}
 use Rattle.model.specs.Outbox.{sendText}
 use Rattle.model.specs.Box.{printMessageRecord, printMessage, Call, onSend, onAlign, fresh}

@@ -13,7 +13,7 @@ use Rattle.common.specs.Slots.{slot}
 use Rattle.common.proofs.Bools.{and-left}
 use Rattle.common.proofs.Choices.{by-test}
 use Rattle.ids.specs.Ids.{isFormat}
-use Rattle.ids.specs.EventMask.{isMask}
+use Rattle.filters.specs.EventMask.{isMask}
 use Rattle.events.specs.Records.{eventSize, eventBytes, isEvent, eventIn}
 use Rattle.events.specs.declared.Event.{Event}
 use Rattle.event_text.specs.Lines.{eventRoom, eventLine}
@@ -24,12 +24,12 @@ use Rattle.inbox.specs.Refusals as Judged
 use Rattle.inbox.specs.Calls.{looked}
 use Rattle.inbox.specs.Calls as Queue
 use Rattle.queue.specs.declared.Receive.{Receive}
-use Rattle.recorder.specs.State.{good, withReceive}
-use Rattle.recorder.specs.Outcomes.{Lent, lends, ends}
+use Rattle.device.specs.State.{good, withReceive}
+use Rattle.device.specs.Outcomes.{Lent, lends, ends}
 use Rattle.buffer.specs.Channel.{goodSend}
 use Rattle.recorder.specs.Receiving.{lifted, recordRead, textRead, lookSaid, through}
 use Rattle.recorder.specs.Changes.{filterSet, eventMaskSet}
-use Rattle.recorder.specs.declared.Device.{Device}
+use Rattle.device.specs.declared.Device.{Device}
 use Rattle.model.specs.Said.{says, saysZeros, hands, prints}
 use Rattle.model.specs.Inbox.{Kept, Inbox, ReceiveCall, readRecord, readText, look, setFilter, setEventMask}
 use Rattle.model.specs.Inbox.{identifiersThrough, Received, takesOldest, receives}

@@ -27,12 +27,12 @@ use Rattle.buffer.specs.Channel.{sendLimit, oldest, afterTake, afterDone, after
 use Rattle.outbox.specs.Refusals.{possible, ready, putRefusal, waitRefusal, takeRefusal, doneRefusal, abortRefusal}
 use Rattle.outbox.specs.Calls as Wire
 use Rattle.buffer.specs.declared.Send.{Send}
-use Rattle.recorder.specs.State.{withSend}
-use Rattle.recorder.specs.Outcomes.{Lent, lends, ends}
+use Rattle.device.specs.State.{withSend}
+use Rattle.device.specs.Outcomes.{Lent, lends, ends}
 use Rattle.recorder.specs.Outcomes as Ended
 use Rattle.recorder.specs.Sending.{lifted, sent, textSent}
 use Rattle.recorder.specs.Register.{carriedOver, carrying, taken, finished, aborted}
-use Rattle.recorder.specs.declared.Device.{Device}
+use Rattle.device.specs.declared.Device.{Device}
 use Rattle.recorder.proofs.SendWays.{carries-as}
 use Rattle.model.specs.Said.{says, saysZeros, counts, hands}
 use Rattle.model.specs.Inbox.{Inbox}

@@ -17,9 +17,9 @@ use Rattle.digits.specs.Digits.{hexDigit, hex, decimalIn, fields}
 use Rattle.digits.specs.Reading.{byteKind}
 use Rattle.ids.specs.Ids.{isFormat, idBits, idLow, rawOf}
 use Rattle.ids.specs.Frames.{headerRefusal, carried}
-use Rattle.ids.specs.Filters.{isFilter, filterLow, dataCompared, free, fieldMeets, idPasses, byteMeets, dataPasses}
-use Rattle.ids.specs.Filters.{modeTakes, framePasses, freeBits, letThrough}
-use Rattle.ids.specs.EventMask.{maskBit, maskLets}
+use Rattle.filters.specs.Filters.{isFilter, filterLow, dataCompared, free, fieldMeets, idPasses, byteMeets}
+use Rattle.filters.specs.Filters.{dataPasses, modeTakes, framePasses, freeBits, letThrough}
+use Rattle.filters.specs.EventMask.{maskBit, maskLets}
 use Rattle.messages.specs.Records.{messageSize, stored, goodMessage, messageBytes, messageIn, isMessage, noMessage}
 use Rattle.messages.specs.Records.{judgeMessage}
 use Rattle.events.specs.Records.{eventSize, holdsFrame, kindOf, eventBytes, eventIn, isEvent}
@@ -40,10 +40,10 @@ use Rattle.message_text.specs.Reading.{allBytes, judgedData, judged, readMessag
 use Rattle.message_text.specs.Printing.{messageRoom, messageText, messageLine, messageRefusal}
 use Rattle.event_text.specs.Words.{wordOf}
 use Rattle.event_text.specs.Lines.{frameText, eventText, eventLine}
-use Rattle.recorder.specs.State.{good}
+use Rattle.device.specs.State.{good}
 use Rattle.settings.specs.Ranges.{goodShared, formatOf}
-use Rattle.recorder.specs.Outcomes.{Lent, lends, Outcome}
-use Rattle.recorder.specs.Opening.{opened}
+use Rattle.device.specs.Outcomes.{Lent, lends, Outcome}
+use Rattle.device.specs.Opening.{opened}
 use Rattle.recorder.specs.Receiving.{raised, recordRead, textRead, through}
 use Rattle.recorder.specs.Sending.{textSent}
 use Rattle.recorder.specs.Printing.{linePrinted}

@@ -2,19 +2,18 @@
 use Prim.Native.Nat.{ℕ, zero, suc, _-_}
 use mathlib.Core.Path.{_≡_, refl, sym, ap, _∙_}
 use mathlib.Core.Bool.{Bool, true, false, _&&_}
-use mathlib.Core.List.{List}
 use native.Mathlib.Omega.{arith}
-use lib.ListN.{length, take, drop, replicate}
-use lib.Dec.{leb, eqb}
-use borrow.Author.Tests.{leb-true, eqb-true, lt-ltb}
+use lib.ListN.{length, take, replicate}
+use lib.Dec.{leb}
+use borrow.Author.Tests.{leb-true, lt-ltb}
 use Rattle.common.specs.Choice.{pick}
-use Rattle.common.specs.Numbers.{allZero, Bytes}
-use Rattle.common.proofs.Bools.{apart, and-left, and-right}
+use Rattle.common.specs.Numbers.{Bytes}
+use Rattle.common.proofs.Bools.{apart, and-right}
 use Rattle.common.proofs.Numbers.{zeros-bytes, bytes-append, bytes-take}
 use Rattle.ids.specs.Ids.{isFormat, rawOf, isBad, idNumber}
 use Rattle.ids.specs.Frames.{headerRefusal, carried}
-use Rattle.ids.specs.Filters.{modeTakes}
-use Rattle.messages.specs.Records.{stored, goodMessage, messageBytes, messageIn, isMessage}
+use Rattle.filters.specs.Filters.{modeTakes}
+use Rattle.messages.specs.Records.{stored, messageBytes, messageIn, isMessage}
 use Rattle.events.specs.Records.{holdsFrame, kindOf, stamped, goodEvent, eventBytes, isEvent, eventIn}
 use Rattle.events.specs.Raised.{eventOf, frameRefusal}
 use Rattle.messages.specs.declared.Message.{Message}

@@ -2,19 +2,19 @@
 use Prim.Native.Nat.{ℕ}
 use mathlib.Core.Path.{_≡_}
 use mathlib.Core.Bool.{true}
-use mathlib.Core.List.{List, [], _∷_}
+use mathlib.Core.List.{List, []}
 use Rattle.common.specs.Choice.{pick}
 use Rattle.common.specs.Numbers.{allZero, among}
 use Rattle.common.specs.Refusals.{isRefusal}
 use Rattle.inbox.specs.Calls.{looked}
-use Rattle.recorder.specs.State.{good}
-use Rattle.recorder.specs.Outcomes.{Lent, Outcome, ends}
+use Rattle.device.specs.State.{good}
+use Rattle.device.specs.Outcomes.{Lent, Outcome, ends}
 use Rattle.recorder.specs.Changes.{modeSet, formatSet, filterSet, eventMaskSet}
 use Rattle.recorder.specs.Receiving.{raised, recordRead, textRead, lookSaid, through}
 use Rattle.recorder.specs.Sending.{sent, textSent}
 use Rattle.recorder.specs.Register.{taken, finished, aborted}
 use Rattle.recorder.specs.Printing.{messageRecordPrinted, eventRecordPrinted, messagePrinted}
-use Rattle.recorder.specs.declared.Device.{Device}
+use Rattle.device.specs.declared.Device.{Device}
 use Rattle.model.specs.Inbox.{ReceiveCall, readRecord, readText, look, setFilter, setEventMask, identifiersThrough}
 use Rattle.model.specs.Outbox.{SendCall, send, sendText, take, done, abort}
 use Rattle.model.specs.Box.{DeviceCall, raise, setMode, setFormat, PrintCall, printMessageRecord, printEventRecord}

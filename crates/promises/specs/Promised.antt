@@ -6,8 +6,8 @@ use lib.ListN.{length, take, drop}
 use lib.Seq.{slice}
 use Rattle.common.specs.Numbers.{numberOf}
 use Rattle.messages.specs.Records.{messageSize}
-use Rattle.recorder.specs.Outcomes.{Lent, Outcome}
-use Rattle.recorder.specs.declared.Device.{Device}
+use Rattle.device.specs.Outcomes.{Lent, Outcome}
+use Rattle.device.specs.declared.Device.{Device}
 use Rattle.model.specs.Inbox.{Kept}
 use Rattle.model.specs.Outbox.{sendText}
 use Rattle.model.specs.Box.{Call, onSend}

@@ -10,9 +10,9 @@ use Rattle.messages.specs.Records.{messageSize}
 use Rattle.events.specs.Records.{eventSize}
 use Rattle.queue.specs.Channel.{slotAt}
 use Rattle.settings.specs.declared.Settings.{Settings}
-use Rattle.recorder.specs.Outcomes.{Lent, lends, Outcome}
-use Rattle.recorder.specs.Opening.{opened}
-use Rattle.recorder.specs.declared.Device.{Device}
+use Rattle.device.specs.Outcomes.{Lent, lends, Outcome}
+use Rattle.device.specs.Opening.{opened}
+use Rattle.device.specs.declared.Device.{Device}
 use Rattle.model.specs.Inbox.{ReceiveCall, readRecord, readText, look, setFilter, setEventMask, identifiersThrough}
 use Rattle.model.specs.Box.{Call, onDevice, onReceive, onSend, onAlign}
 use Rattle.promises.specs.Typed.{Made}

@@ -9,7 +9,7 @@ use lib.Dec.{leb}
 use Rattle.common.specs.Numbers.{Bytes}
 use Rattle.common.specs.Rings.{goodRing}
 use Rattle.common.specs.declared.Ring.{Ring}
-use Rattle.ids.specs.EventMask.{isMask}
+use Rattle.filters.specs.EventMask.{isMask}
 use Rattle.messages.specs.Records.{messageSize, goodMessage, messageBytes, noMessage}
 use Rattle.events.specs.Records.{eventSize, codeOf, goodEvent, eventBytes}
 use Rattle.messages.specs.declared.Message.{Message}
@@ -20,8 +20,8 @@ use Rattle.queue.specs.Channel.{queueLimit}
 use Rattle.queue.specs.declared.Receive.{Receive}
 use Rattle.buffer.specs.Channel.{sendLimit}
 use Rattle.buffer.specs.declared.Send.{Send}
-use Rattle.recorder.specs.Outcomes.{Outcome}
-use Rattle.recorder.specs.declared.Device.{Device}
+use Rattle.device.specs.Outcomes.{Outcome}
+use Rattle.device.specs.declared.Device.{Device}
 use Rattle.model.specs.Said.{Said}
 use Rattle.model.specs.Inbox.{Kept, Inbox}
 use Rattle.model.specs.Outbox.{Outbox}

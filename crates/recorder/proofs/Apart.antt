@@ -12,11 +12,12 @@ use Rattle.queue.specs.Channel.{goodReceive, usable}
 use Rattle.queue.specs.declared.Receive.{Receive}
 use Rattle.buffer.specs.Channel.{sendFits}
 use Rattle.buffer.specs.declared.Send.{Send}
-use Rattle.recorder.specs.State.{good, withReceive}
-use Rattle.recorder.specs.Outcomes.{Lent, Outcome, queueReady, sendReady, bothReady, withQueue}
+use Rattle.device.specs.State.{good, withReceive}
+use Rattle.device.specs.Outcomes.{Lent, Outcome}
+use Rattle.recorder.specs.Outcomes.{queueReady, sendReady, bothReady, withQueue}
 use Rattle.recorder.specs.Sending.{sent, textSent}
 use Rattle.recorder.specs.Register.{taken, finished, aborted}
-use Rattle.recorder.specs.declared.Device.{Device}
+use Rattle.device.specs.declared.Device.{Device}
 use Rattle.recorder.proofs.Ready.{receive-good, ready-usable}
 
 -- what the sending side is answered and left

@@ -11,11 +11,12 @@ use Rattle.settings.specs.declared.Shared.{Shared}
 use Rattle.queue.specs.Recording.{RaiseMet, unfiltered}
 use Rattle.queue.specs.declared.Receive.{Receive}
 use Rattle.inbox.proofs.Laws.{no-filter}
-use Rattle.recorder.specs.State.{withShared, withReceive}
-use Rattle.recorder.specs.Outcomes.{Lent, ends, refuses, queueReady, withQueue, met, answerWith, QueueMet}
+use Rattle.device.specs.State.{withShared, withReceive}
+use Rattle.device.specs.Outcomes.{Lent, ends, refuses, answerWith}
+use Rattle.recorder.specs.Outcomes.{queueReady, withQueue, met, QueueMet}
 use Rattle.recorder.specs.Changes.{changed}
-use Rattle.recorder.specs.declared.Device.{Device}
-use Rattle.recorder.specs.declared.Answer.{Answer}
+use Rattle.device.specs.declared.Device.{Device}
+use Rattle.device.specs.declared.Answer.{Answer}
 use Rattle.recorder.proofs.Meeting.{noted-ends}
 use Rattle.recorder.proofs.Ready.{other-code}
 

@@ -1,6 +1,5 @@
 pub mod Meeting
 pub mod Ready
-pub mod OpenWays
 pub mod ChangeWays
 pub mod ReceiveWays
 pub mod SendWays

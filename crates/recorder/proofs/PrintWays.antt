@@ -8,10 +8,11 @@ use Rattle.common.proofs.Bools.{said, denied}
 use Rattle.common.proofs.Choices.{by-test}
 use Rattle.digits.specs.Written.{Prints}
 use Rattle.digits.specs.declared.Printed.{Printed}
-use Rattle.recorder.specs.State.{good}
-use Rattle.recorder.specs.Outcomes.{Lent, refuses, PrintMet, printedOf}
+use Rattle.device.specs.State.{good}
+use Rattle.device.specs.Outcomes.{Lent, refuses}
+use Rattle.recorder.specs.Outcomes.{PrintMet, printedOf}
 use Rattle.recorder.specs.Printing.{linePrinted}
-use Rattle.recorder.specs.declared.Device.{Device}
+use Rattle.device.specs.declared.Device.{Device}
 
 -- a printing call on a device d, of which the code's test says g
 module _ (number : ℕ) (text : List ℕ) (d : Device) (l : Lent) {g : Bool} (e : g ≡ good d) where

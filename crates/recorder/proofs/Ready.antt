@@ -6,7 +6,7 @@ use lib.ListN.{length}
 use lib.Dec.{leb}
 use borrow.Author.Tests.{leb-true}
 use Rattle.common.proofs.Bools.{and-left, and-right}
-use Rattle.ids.specs.Filters.{modeTakes}
+use Rattle.filters.specs.Filters.{modeTakes}
 use Rattle.events.specs.Records.{codeOf}
 use Rattle.messages.specs.declared.Message.{Message}
 use Rattle.events.specs.Raised.{eventOf}
@@ -14,9 +14,10 @@ use Rattle.events.proofs.OfCode.{event-code}
 use Rattle.settings.specs.Ranges.{goodShared}
 use Rattle.queue.specs.Channel.{goodReceive, queueFits, usable}
 use Rattle.buffer.specs.Channel.{goodSend}
-use Rattle.recorder.specs.State.{good}
-use Rattle.recorder.specs.Outcomes.{Lent, queueReady}
-use Rattle.recorder.specs.declared.Device.{Device}
+use Rattle.device.specs.State.{good}
+use Rattle.device.specs.Outcomes.{Lent}
+use Rattle.recorder.specs.Outcomes.{queueReady}
+use Rattle.device.specs.declared.Device.{Device}
 
 -- a device that is ready for its event table is good, and the table is long enough
 pub ready-good : (d : Device) (l : Lent) → queueReady d l ≡ true → good d ≡ true

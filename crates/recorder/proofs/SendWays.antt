@@ -20,12 +20,13 @@ use Rattle.buffer.specs.declared.Send.{Send}
 use Rattle.outbox.specs.declared.Sent.{Sent}
 use Rattle.outbox.specs.declared.Taken.{Taken as TakenOut}
 use Rattle.outbox.specs.declared.Emptied.{Emptied}
-use Rattle.recorder.specs.State.{withReceive, withSend}
-use Rattle.recorder.specs.Outcomes.{Lent, Outcome, noted, answerWith, takenWith, QueueMet, SendMet, TakeMet}
+use Rattle.device.specs.State.{withReceive, withSend}
+use Rattle.device.specs.Outcomes.{Lent, Outcome, answerWith}
+use Rattle.recorder.specs.Outcomes.{noted, takenWith, QueueMet, SendMet, TakeMet}
 use Rattle.recorder.specs.Sending.{lifted}
 use Rattle.recorder.specs.Register.{carriedOver, carriedPast, EmptiedMet, carrying}
-use Rattle.recorder.specs.declared.Device.{Device}
-use Rattle.recorder.specs.declared.Answer.{Answer}
+use Rattle.device.specs.declared.Device.{Device}
+use Rattle.device.specs.declared.Answer.{Answer}
 use Rattle.recorder.proofs.Ready.{other-code}
 
 -- an event of another code than 1 is carriedOver past the filter

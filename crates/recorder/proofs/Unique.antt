@@ -4,8 +4,9 @@
 use mathlib.Core.Path.{_≡_, sym, _∙_}
 use mathlib.Core.List.{List}
 use Prim.Native.Nat.{ℕ}
-use Rattle.recorder.specs.Outcomes.{Outcome, QueueMet, SendMet, OutMet, TakeMet, PrintMet}
-use Rattle.recorder.specs.declared.Answer.{Answer}
+use Rattle.device.specs.Outcomes.{Outcome}
+use Rattle.recorder.specs.Outcomes.{QueueMet, SendMet, OutMet, TakeMet, PrintMet}
+use Rattle.device.specs.declared.Answer.{Answer}
 use Rattle.recorder.specs.declared.Taken.{Taken}
 use Rattle.digits.specs.declared.Printed.{Printed}
 

@@ -7,9 +7,10 @@ use Rattle.events.specs.Raised.{eventOf}
 use Rattle.settings.specs.Ranges.{goodShared, withMode, withFormat}
 use Rattle.settings.specs.declared.Shared.{Shared}
 use Rattle.inbox.specs.Calls as Inbox
-use Rattle.recorder.specs.State.{withShared}
-use Rattle.recorder.specs.Outcomes.{Lent, Outcome, ends, refuses, queueReady, noted}
-use Rattle.recorder.specs.declared.Device.{Device}
+use Rattle.device.specs.State.{withShared}
+use Rattle.device.specs.Outcomes.{Lent, Outcome, ends, refuses}
+use Rattle.recorder.specs.Outcomes.{queueReady, noted}
+use Rattle.device.specs.declared.Device.{Device}
 use Rattle.recorder.specs.Receiving.{onReceiving}
 
 -- a change of the shared settings raises code 5 after the change, even if the value is the same: 2, 1

@@ -1,6 +1,4 @@
-pub mod State
 pub mod Outcomes
-pub mod Opening
 pub mod Receiving
 pub mod Changes
 pub mod Sending

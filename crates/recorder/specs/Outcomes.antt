@@ -1,8 +1,8 @@
--- What a call answers and leaves, and the event that a call raises beside its answer.
+-- What a call needs to be ready, the event that it raises beside its answer, and what it promises.
 use Prim.Native.Nat.{ℕ}
 use mathlib.Core.Path.{_≡_}
 use mathlib.Core.Bool.{Bool, _&&_}
-use mathlib.Core.List.{List, []}
+use mathlib.Core.List.{List}
 use lib.ListN.{length}
 use Rattle.events.specs.declared.Event.{Event}
 use Rattle.digits.specs.declared.Printed.{Printed}
@@ -10,38 +10,13 @@ use Rattle.queue.specs.Channel.{queueFits}
 use Rattle.queue.specs.Recording.{Raising}
 use Rattle.inbox.specs.Calls.{meets}
 use Rattle.buffer.specs.Channel.{sendFits}
-use Rattle.recorder.specs.State.{good, withReceive}
-use Rattle.recorder.specs.declared.Device.{Device}
-use Rattle.recorder.specs.declared.Answer.{Answer}
+use Rattle.device.specs.State.{good, withReceive}
+use Rattle.device.specs.Outcomes.{Lent, Outcome, ends, answerOf}
+use Rattle.device.specs.declared.Device.{Device}
+use Rattle.device.specs.declared.Answer.{Answer}
 use Rattle.recorder.specs.declared.Record.{Record}
 use Rattle.recorder.specs.declared.Taken.{Taken}
 use Rattle.recorder.specs.declared.Through.{Through}
-
--- what a call is lent: the event table, the message table, the output buffer
-pub record Lent : Type 0 where
-  pub queue : List ℕ
-  pub send : List ℕ
-  pub out : List ℕ
-
-abbrev pub lends : List ℕ → List ℕ → List ℕ → Lent
-lends queue send out = record { queue = queue; send = send; out = out }
-
--- what a call answers: the paper's number, a value (a line's length, the bytes used, how many were purged or let
--- through), the bytes read or taken;
--- and what it leaves: the device and every byte that it was lent
-pub record Outcome : Type 0 where
-  pub number : ℕ
-  pub value : ℕ
-  pub bytes : List ℕ
-  pub device : Device
-  pub lent : Lent
-
-abbrev pub ends : ℕ → ℕ → List ℕ → Device → Lent → Outcome
-ends n v b d l = record { number = n; value = v; bytes = b; device = d; lent = l }
-
--- a refusal returns its number and zero values; state and bytes stay
-abbrev pub refuses : ℕ → Device → Lent → Outcome
-refuses n d l = ends n 0 [] d l
 
 -- the tables that a call is lent are as long as their capacities need, and the state is possible: else refusal 2
 abbrev pub queueReady : Device → Lent → Bool
@@ -74,12 +49,6 @@ noted e o =
     ends (o .number) (o .value) (o .bytes) (withReceive (o .device) (r .receive)) (withQueue (o .lent) (r .table))
 
 -- the answer of an outcome, as the code returns it
-abbrev pub answerWith : ℕ → ℕ → Device → Answer
-answerWith n v d = record { number = n; value = v; device = d }
-
-abbrev pub answerOf : Outcome → Answer
-answerOf o = answerWith (o .number) (o .value) (o .device)
-
 abbrev pub recordOf : Outcome → Record
 recordOf o = record { number = o .number; bytes = o .bytes; device = o .device }
 

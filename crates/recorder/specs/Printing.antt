@@ -9,9 +9,10 @@ use Rattle.events.specs.Records.{eventIn}
 use Rattle.messages.specs.declared.Message.{Message}
 use Rattle.message_text.specs.Printing.{messageLine, messageRefusal, messageRecordRefusal}
 use Rattle.event_text.specs.Lines.{eventLine, eventRecordRefusal}
-use Rattle.recorder.specs.State.{good}
-use Rattle.recorder.specs.Outcomes.{Lent, Outcome, ends, refuses, withOut}
-use Rattle.recorder.specs.declared.Device.{Device}
+use Rattle.device.specs.State.{good}
+use Rattle.device.specs.Outcomes.{Lent, Outcome, ends, refuses}
+use Rattle.recorder.specs.Outcomes.{withOut}
+use Rattle.device.specs.declared.Device.{Device}
 
 -- a line with its first refusal, or 0, is printed by a device that is good: else 2
 unfoldable pub linePrinted : ℕ → List ℕ → Device → Lent → Outcome

@@ -16,10 +16,11 @@ use Rattle.queue.specs.declared.Receive.{Receive}
 use Rattle.outbox.specs.Calls as Outbox
 use Rattle.outbox.specs.declared.Raised.{Raised}
 use Rattle.outbox.specs.declared.Emptied.{Emptied}
-use Rattle.recorder.specs.State.{withReceive, withSend}
-use Rattle.recorder.specs.Outcomes.{Lent, Outcome, ends, refuses, withQueue, withTable, answerWith}
-use Rattle.recorder.specs.declared.Device.{Device}
-use Rattle.recorder.specs.declared.Answer.{Answer}
+use Rattle.device.specs.State.{withReceive, withSend}
+use Rattle.device.specs.Outcomes.{Lent, Outcome, ends, refuses, answerWith}
+use Rattle.recorder.specs.Outcomes.{withQueue, withTable}
+use Rattle.device.specs.declared.Device.{Device}
+use Rattle.device.specs.declared.Answer.{Answer}
 
 -- the event that a call on the send channel raises meets filter, mask and queue; code 0 is none
 unfoldable pub carriedOver : Raised → Shared → Receive → List ℕ → Raising

@@ -5,9 +5,10 @@ use Rattle.common.specs.Choice.{pick}
 use Rattle.messages.specs.declared.Message.{Message}
 use Rattle.queue.specs.Channel.{goodReceive}
 use Rattle.outbox.specs.Calls as Outbox
-use Rattle.recorder.specs.State.{withSend}
-use Rattle.recorder.specs.Outcomes.{Lent, Outcome, ends, refuses, withTable}
-use Rattle.recorder.specs.declared.Device.{Device}
+use Rattle.device.specs.State.{withSend}
+use Rattle.device.specs.Outcomes.{Lent, Outcome, ends, refuses}
+use Rattle.recorder.specs.Outcomes.{withTable}
+use Rattle.device.specs.declared.Device.{Device}
 
 -- what the outbox answers and leaves, on the device
 abbrev pub lifted : Outbox.Outcome → Device → Lent → Outcome

@@ -1,11 +1,12 @@
 // Changes of setting: mode and format are the device's, the rest is the inbox's once the send channel was judged.
-use crate::Answer;
-use crate::Device;
-use crate::state;
+use device::Answer;
+use device::Device;
+use device::state;
 use settings::Shared;
 ghost use mathlib.Core.Path.{_≡_};
 ghost use mathlib.Core.List.{[]};
-ghost use Rattle.recorder.specs.Outcomes.{lends, answerOf, QueueMet};
+ghost use Rattle.device.specs.Outcomes.{lends, answerOf};
+ghost use Rattle.recorder.specs.Outcomes.{QueueMet};
 ghost use Rattle.recorder.specs.Changes.{changed, modeSet, formatSet, filterSet, eventMaskSet};
 
 // Sets mode, format and Align anew, and raises code 5.

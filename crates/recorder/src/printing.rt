@@ -1,12 +1,13 @@
 // The print calls: Align is the channel's.
-use crate::Device;
-use crate::state;
+use device::Device;
+use device::state;
 use digits::Printed;
 use messages::Message;
 ghost use mathlib.Core.Path.{_≡_};
 ghost use mathlib.Core.List.{[]};
 ghost use Rattle.digits.specs.Written.{notPrinted};
-ghost use Rattle.recorder.specs.Outcomes.{lends, PrintMet};
+ghost use Rattle.device.specs.Outcomes.{lends};
+ghost use Rattle.recorder.specs.Outcomes.{PrintMet};
 ghost use Rattle.recorder.specs.Printing.{messageRecordPrinted, eventRecordPrinted, messagePrinted};
 
 fn refuse(number: u32) -> Printed

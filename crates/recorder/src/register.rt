@@ -1,9 +1,9 @@
 // The transmit register: take, done and abort. The receive side is judged, the rest is the outbox's;
 // the event that it raises is carried to the queue.
-use crate::Answer;
-use crate::Device;
 use crate::Taken;
-use crate::state;
+use device::Answer;
+use device::Device;
+use device::state;
 use messages::records::MESSAGE;
 use outbox::Emptied;
 use outbox::Raised;
@@ -13,7 +13,8 @@ ghost use mathlib.Core.Bool.{true};
 ghost use mathlib.Core.List.{[]};
 ghost use Rattle.queue.specs.Channel.{usable};
 ghost use Rattle.queue.specs.Recording.{RaiseMet};
-ghost use Rattle.recorder.specs.Outcomes.{lends, QueueMet, TakeMet};
+ghost use Rattle.device.specs.Outcomes.{lends};
+ghost use Rattle.recorder.specs.Outcomes.{QueueMet, TakeMet};
 ghost use Rattle.recorder.specs.Register.{carriedPast, EmptiedMet, taken, finished, aborted};
 
 // Carries the event that a call raised, if any (code 0 is none), to the queue; only code 1 would meet the filter.

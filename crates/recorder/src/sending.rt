@@ -1,11 +1,12 @@
 // Sending a message, binary or as text: the receive channel is judged, the rest is the outbox's.
-use crate::Answer;
-use crate::Device;
-use crate::state;
+use device::Answer;
+use device::Device;
+use device::state;
 use messages::Message;
 ghost use mathlib.Core.Path.{_≡_};
 ghost use mathlib.Core.List.{[]};
-ghost use Rattle.recorder.specs.Outcomes.{lends, SendMet};
+ghost use Rattle.device.specs.Outcomes.{lends};
+ghost use Rattle.recorder.specs.Outcomes.{SendMet};
 ghost use Rattle.recorder.specs.Sending.{sent, textSent};
 
 // Sends a message given in binary: format 0, 1 or 2, aligned identifier.

@@ -8,7 +8,7 @@ use lib.Dec.{leb, eqb}
 use borrow.Author.Tests.{eqb-true, eq-eqb, ne-eqb, lt-leb}
 use Rattle.common.proofs.Choices.{pick-is}
 use Rattle.ids.specs.Ids.{isFormat, rawOf}
-use Rattle.ids.specs.Filters.{modeTakes}
+use Rattle.filters.specs.Filters.{modeTakes}
 use Rattle.ids.specs.Frames.{rtrDlcRefusal}
 use Rattle.ids.specs.declared.Id.{Id}
 use Rattle.ids.specs.declared.Id.the-variants.{Good, Bad}

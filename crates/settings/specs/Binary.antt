@@ -4,7 +4,7 @@ use mathlib.Core.Bool.{_&&_}
 use lib.Dec.{eqb}
 use Rattle.common.specs.Choice.{pick}
 use Rattle.ids.specs.Ids.{isFormat, rawOf, isBad, idNumber}
-use Rattle.ids.specs.Filters.{modeTakes}
+use Rattle.filters.specs.Filters.{modeTakes}
 use Rattle.ids.specs.Frames.{rtrDlcRefusal}
 use Rattle.messages.specs.Records.{stored, noMessage}
 use Rattle.messages.specs.declared.Message.{Message}

@@ -3,7 +3,7 @@ use Prim.Native.Nat.{ℕ}
 use mathlib.Core.Bool.{Bool, _&&_}
 use lib.Dec.{leb, eqb}
 use Rattle.common.specs.Choice.{pick}
-use Rattle.ids.specs.Filters.{modeTakes}
+use Rattle.filters.specs.Filters.{modeTakes}
 use Rattle.settings.specs.declared.Shared.{Shared}
 
 -- mode 0 or 1, format 0 to 2 but not 2 in mode 0, Align 0 to 3

@@ -8,7 +8,7 @@ use messages::Message;
 ghost use mathlib.Core.Path.{_≡_};
 ghost use mathlib.Core.Bool.{_&&_};
 ghost use Rattle.ids.specs.Ids.{isFormat};
-ghost use Rattle.ids.specs.Filters.{modeTakes};
+ghost use Rattle.filters.specs.Filters.{modeTakes};
 ghost use Rattle.settings.specs.Binary.{notBrought, brought};
 
 fn refuse(number: u32) -> Brought
@@ -28,7 +28,7 @@ fn is_sendable(mode: u32, format: u32) -> bool
     if !ids::align::is_format(format) {
         return false;
     }
-    ids::acceptance::mode_takes(mode, format)
+    filters::acceptance::mode_takes(mode, format)
 }
 
 // The message to store, or why not.

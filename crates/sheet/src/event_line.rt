@@ -1,8 +1,8 @@
 // The event text and its room.
 use crate::queueing;
 use crate::setting;
+use device::Device;
 use events::records::EVENT;
-use recorder::Device;
 use recorder::receiving;
 
 // The number of a read into a room.

@@ -1,9 +1,9 @@
 // The message texts of the sheet.
 use crate::setting;
+use device::Answer;
+use device::Device;
 use events::records::EVENT;
 use messages::records::MESSAGE;
-use recorder::Answer;
-use recorder::Device;
 use recorder::register;
 use recorder::sending;
 ghost use Prim.Native.Nat.{_≤_};

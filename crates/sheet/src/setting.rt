@@ -1,7 +1,7 @@
 // The device of a case, and its frames.
+use device::Answer;
 use ids::Header;
 use messages::Message;
-use recorder::Answer;
 use settings::Settings;
 
 // Mode 0 and MaskActive 0, every event let through, room for one message.
@@ -24,7 +24,7 @@ fn settings(align: u32, code: u32, mask: u32, capacity: u32) -> Settings {
 pub fn open(align: u32, code: u32, mask: u32, capacity: u32) -> Answer {
     let s = settings(align, code, mask, capacity);
     let table = [0u8; 64];
-    recorder::opening::open(s, &table, &table)
+    device::opening::open(s, &table, &table)
 }
 
 // A standard frame that holds two bytes.

@@ -1,6 +1,6 @@
 use mathlib.Core.List.{[]}
 use denote.Ref.{now}
-use Rattle.recorder.specs.Outcomes.{lends}
+use Rattle.device.specs.Outcomes.{lends}
 use Rattle.recorder.specs.Receiving.{recordRead}
 use Rattle.kept.proofs.Moves.{record-moves, record-advanced}
 use Rattle.board.proofs.Ways.{not-with, record-called}

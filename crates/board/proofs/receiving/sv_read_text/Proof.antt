@@ -1,6 +1,6 @@
 use mathlib.Core.List.{[]}
 use denote.Ref.{now}
-use Rattle.recorder.specs.Outcomes.{lends}
+use Rattle.device.specs.Outcomes.{lends}
 use Rattle.recorder.specs.Receiving.{textRead}
 use Rattle.kept.proofs.Moves.{text-moves, answer-advanced}
 use Rattle.board.proofs.Ways.{not-with, text-called}

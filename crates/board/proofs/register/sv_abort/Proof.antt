@@ -1,6 +1,6 @@
 use mathlib.Core.List.{[]}
 use denote.Ref.{now}
-use Rattle.recorder.specs.Outcomes.{lends}
+use Rattle.device.specs.Outcomes.{lends}
 use Rattle.recorder.specs.Register.{aborted}
 use Rattle.kept.proofs.Moves.{abort-moves, answer-transferred}
 use Rattle.board.proofs.Ways.{not-with, abort-called}

@@ -1,6 +1,6 @@
 use mathlib.Core.List.{[]}
 use denote.Ref.{now}
-use Rattle.recorder.specs.Outcomes.{lends}
+use Rattle.device.specs.Outcomes.{lends}
 use Rattle.recorder.specs.Register.{finished}
 use Rattle.promises.specs.Calls.{outcome}
 use Rattle.kept.proofs.Moves.{done-moves, answer-transferred}

@@ -1,6 +1,6 @@
 use mathlib.Core.List.{[]}
 use denote.Ref.{now}
-use Rattle.recorder.specs.Outcomes.{lends}
+use Rattle.device.specs.Outcomes.{lends}
 use Rattle.recorder.specs.Register.{taken}
 use Rattle.kept.proofs.Moves.{take-moves, taken-transferred}
 use Rattle.board.proofs.Ways.{not-with, take-called}

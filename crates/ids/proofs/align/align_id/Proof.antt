@@ -1,7 +1,7 @@
 use mathlib.Core.Path.{refl}
 use Rattle.ids.specs.Ids.{aligned}
 use Rattle.ids.proofs.RoundTrip.{align-good}
-use Rattle.ids.proofs.Fields.{id-in-word}
+use Rattle.ids.proofs.Columns.{id-in-word}
 use mathlib.Core.Bool.{and-false}
 use Rattle.common.proofs.Bools.{said, denied}
 use borrow.Author.Tests.{le-leb, lt-leb, le-ltb}

@@ -1,5 +1,5 @@
 use Rattle.ids.specs.Ids.{idLow}
-use Rattle.ids.proofs.Fields.{column, pick-same}
+use Rattle.ids.proofs.Columns.{column, pick-same}
 use borrow.Author.Tests.{eq-eqb, ne-eqb}
 use Rattle.ids.proofs.align.id_low.Statement.{statement}
 use Rattle.ids.proofs.align.id_low.Tie as tie

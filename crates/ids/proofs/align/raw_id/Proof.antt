@@ -2,7 +2,7 @@ use mathlib.Core.Path.{refl}
 use Rattle.ids.proofs.Bits.{one-shl}
 use lib.Pow.{pow-pos}
 use Rattle.ids.specs.Ids.{rawOf}
-use Rattle.ids.proofs.Fields.{id-in-word}
+use Rattle.ids.proofs.Columns.{id-in-word}
 use mathlib.Core.Bool.{and-false}
 use Rattle.common.proofs.Bools.{said, denied}
 use borrow.Author.Tests.{le-leb, lt-leb, eq-eqb, ne-eqb, lt-ltb, le-ltb}

@@ -1,12 +1,11 @@
-use mathlib.Core.Path.{refl, ap, _∙_}
+use mathlib.Core.Path.{refl, _∙_}
 use mathlib.Core.List.{[]}
 use denote.Ref.{now}
 use Rattle.common.proofs.Bools.{said, denied}
 use Rattle.messages.specs.Records.{noMessage}
 use Rattle.events.specs.Raised.{eventOf}
-use Rattle.queue.specs.declared.Receive.{Receive}
 use Rattle.queue.proofs.Laws.{next-past, room-for, built}
-use Rattle.recorder.specs.Outcomes.{lends}
+use Rattle.device.specs.Outcomes.{lends}
 use Rattle.recorder.proofs.Meeting.{queue-met}
 use Rattle.recorder.proofs.Ready.{ready-usable}
 use Rattle.recorder.proofs.ChangeWays.{change-2, change-1, change-met}

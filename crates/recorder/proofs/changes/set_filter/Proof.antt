@@ -2,7 +2,7 @@ use mathlib.Core.Path.{_∙_}
 use mathlib.Core.List.{[]}
 use Rattle.common.proofs.Bools.{said, denied}
 use Rattle.inbox.specs.Calls as Inbox
-use Rattle.recorder.specs.Outcomes.{lends}
+use Rattle.device.specs.Outcomes.{lends}
 use Rattle.recorder.specs.Changes.{filterSet}
 use Rattle.recorder.proofs.ReceiveWays.{changed-met}
 use borrow.Author.Needs.{needs}

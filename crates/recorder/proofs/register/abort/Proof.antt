@@ -4,7 +4,7 @@ use denote.Ref.{now}
 use Rattle.common.proofs.Bools.{said, denied}
 use Rattle.outbox.specs.Calls as Outbox
 use Rattle.outbox.proofs.Laws.{abort-raises}
-use Rattle.recorder.specs.Outcomes.{lends}
+use Rattle.device.specs.Outcomes.{lends}
 use Rattle.recorder.specs.Register.{aborted}
 use Rattle.recorder.proofs.SendWays.{emptied-met}
 use borrow.Author.Needs.{needs}

@@ -1,9 +1,8 @@
 use mathlib.Core.Path.{ap, _∙_}
 use denote.Ref.{now}
-use Rattle.queue.specs.declared.Receive.{Receive}
 use Rattle.queue.proofs.Laws.{room-for, built}
-use Rattle.recorder.specs.State.{withReceive, withSend}
-use Rattle.recorder.specs.Outcomes.{answerWith}
+use Rattle.device.specs.State.{withReceive, withSend}
+use Rattle.device.specs.Outcomes.{answerWith}
 use Rattle.recorder.proofs.SendWays.{carried-next}
 use borrow.Author.Needs.{needs}
 use Rattle.recorder.proofs.register.emptied.Statement.{statement}

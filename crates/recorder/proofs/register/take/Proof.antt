@@ -2,12 +2,11 @@ use mathlib.Core.Path.{refl, ap, _∙_}
 use mathlib.Core.List.{[]}
 use denote.Ref.{now}
 use Rattle.common.proofs.Bools.{said, denied}
-use Rattle.queue.specs.declared.Receive.{Receive}
 use Rattle.queue.proofs.Laws.{room-for, built}
 use Rattle.outbox.specs.Calls as Outbox
 use Rattle.outbox.proofs.Laws.{take-raises}
-use Rattle.recorder.specs.State.{withReceive, withSend}
-use Rattle.recorder.specs.Outcomes.{lends}
+use Rattle.device.specs.State.{withReceive, withSend}
+use Rattle.device.specs.Outcomes.{lends}
 use Rattle.recorder.specs.Register.{taken}
 use Rattle.recorder.proofs.SendWays.{carried-next, taken-met}
 use borrow.Author.Needs.{needs}

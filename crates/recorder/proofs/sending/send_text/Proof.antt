@@ -3,7 +3,7 @@ use denote.Ref.{now}
 use mathlib.Core.List.{[]}
 use Rattle.common.proofs.Bools.{said, denied}
 use Rattle.outbox.specs.Calls as Outbox
-use Rattle.recorder.specs.Outcomes.{lends}
+use Rattle.device.specs.Outcomes.{lends}
 use Rattle.recorder.specs.Sending.{textSent}
 use Rattle.recorder.proofs.SendWays.{lifted-met}
 use borrow.Author.Needs.{needs}

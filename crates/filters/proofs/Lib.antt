@@ -1,0 +1,4 @@
+pub mod Fields
+mod Open
+pub mod EventMask
+pub mod Counting

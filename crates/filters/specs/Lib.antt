@@ -1,0 +1,3 @@
+pub mod Filters
+pub mod EventMask
+pub mod Counting
