@@ -82,6 +82,9 @@ static void open_with(const char *what, size_t length, size_t count) {
         .queue_capacity = EVENTS,
         .tx_mode = SV_TX_AT_DONE,
         .buffer_capacity = MESSAGES,
+        .offset = 120,
+        .second_low = 1715666400,
+        .second_high = 0,
     };
     say(what, sv_open(state, length, &settings, count, queue, sizeof queue, buffer, sizeof buffer));
 }
@@ -95,7 +98,7 @@ int main(void) {
 
     say("raise before open", sv_raise(state, sizeof state, 4, 0, 0, 0, 0, 0, data, queue, sizeof queue));
     open_with("open, short state", sizeof state - 1, SV_SETTINGS);
-    open_with("open, nine settings", sizeof state, SV_SETTINGS - 1);
+    open_with("open, twelve settings", sizeof state, SV_SETTINGS - 1);
     open_with("open", sizeof state, SV_SETTINGS);
 
     raise(1, 12568, 0x112, 5, data);
@@ -132,6 +135,9 @@ int main(void) {
     printf("%u\n", (unsigned)purged);
     say("print_message", sv_print_message(state, sizeof state, 0x731, 1, 0, 2, data, text, sizeof text, &length));
     line(text, length);
+    say("set_site, 841 minutes", sv_set_site(state, sizeof state, 841, 0));
+    say("set_site, -90 minutes", sv_set_site(state, sizeof state, -90, 1715700000));
+    raise(9, 40006, 0, 0, data);
     drain();
     return 0;
 }

@@ -23,14 +23,18 @@
  *
  * The state: three parts, each a list of 32-bit numbers, lowest byte first, and at the end the register's data bytes.
  *
- *    shared     0 mode, 4 format, 8 align
- *    receive   12 mask active, 16 code, 20 mask, 24 event mask, 28 queue capacity, 32 queue first, 36 queue count,
- *              40 pending lost
- *    send      44 TxMode, 48 buffer capacity, 52 buffer first, 56 buffer count, 60 held (0 or 1), 64 register id,
- *              68 register format, 72 register rtr, 76 register dlc, 80..87 register data
+ *    shared     0 mode, 4 format, 8 align, 12 offset, 16 second low, 20 second high
+ *    receive   24 mask active, 28 code, 32 mask, 36 event mask, 40 queue capacity, 44 queue first, 48 queue count,
+ *              52 pending lost
+ *    send      56 TxMode, 60 buffer capacity, 64 buffer first, 68 buffer count, 72 held (0 or 1), 76 register id,
+ *              80 register format, 84 register rtr, 88 register dlc, 92..99 register data
  *
  * A state may be copied, stored and read. Any bytes may be handed in as one: a state of another length, held above 1 or
  * numbers that no device can have are refusal 2.
+ *
+ * The site: one pair for the whole device, which every event carries as it was when the event was recorded. The offset
+ * is in minutes, -720 to 840, as a 32-bit number in two's complement: -1 is 4294967295. The second is the UTC second at
+ * which tick zero fell, 0 to 281474976710655; where numbers have 32 bits it stands as low + 2^32 * high.
  */
 #ifndef SALMEVIDRO_H
 #define SALMEVIDRO_H
@@ -46,13 +50,13 @@ extern "C" {
 #endif
 
 /* The version of this interface: it changes when a size, a place or a call does. */
-enum { SV_VERSION = 2 };
+enum { SV_VERSION = 3 };
 
 /* Bytes of a state, of an event, of a message; room that a line of text needs, whatever the line. */
-enum { SV_STATE = 88, SV_EVENT = 32, SV_MESSAGE = 16, SV_EVENT_ROOM = 80, SV_MESSAGE_ROOM = 37 };
+enum { SV_STATE = 100, SV_EVENT = 40, SV_MESSAGE = 16, SV_EVENT_ROOM = 103, SV_MESSAGE_ROOM = 37 };
 
 /* The most places that a queue and a send buffer can have. */
-enum { SV_EVENTS = 2048, SV_MESSAGES = 1024 };
+enum { SV_EVENTS = 1638, SV_MESSAGES = 1024 };
 
 /* What a raise answers; every other call answers SV_DONE or a refusal. */
 enum { SV_DONE = 0, SV_RECORDED = 100, SV_FILTERED = 101, SV_MASKED = 102, SV_LOST = 103 };
@@ -96,13 +100,16 @@ enum { SV_CAN_20A = 0, SV_CAN_20B = 1 };
 enum { SV_DEFAULT = 0, SV_STANDARD = 1, SV_EXTENDED = 2 };
 enum { SV_TX_SILENT = 1, SV_TX_AT_TAKE = 3, SV_TX_AT_DONE = 7 };
 
-/* Where a state keeps event mask, queue count and pending lost count, and where an event has its lost count. */
-enum { SV_AT_EVENT_MASK = 24, SV_AT_QUEUE_COUNT = 36, SV_AT_PENDING = 40, SV_AT_LOST = 12 };
+/* Where a state keeps event mask, queue count and pending lost count. */
+enum { SV_AT_EVENT_MASK = 36, SV_AT_QUEUE_COUNT = 48, SV_AT_PENDING = 52 };
+
+/* Where an event has its lost count (four bytes), its offset (two, in two's complement) and its second (six). */
+enum { SV_AT_LOST = 12, SV_AT_OFFSET = 32, SV_AT_SECOND = 34 };
 
 /* ---- opening */
 
 /* How many numbers the settings are. */
-enum { SV_SETTINGS = 10 };
+enum { SV_SETTINGS = 13 };
 
 /* What a device is opened with; docs/GUIDE.md has the ranges. A plain array of SV_SETTINGS uint32_t numbers in this
  * order is the same thing: what sv_open is lent is a pointer to such numbers and their count. */
@@ -117,6 +124,9 @@ struct sv_settings {
     uint32_t queue_capacity;
     uint32_t tx_mode;
     uint32_t buffer_capacity;
+    uint32_t offset; /* a negative one as it is, -90; in C++ (uint32_t)-90 */
+    uint32_t second_low;
+    uint32_t second_high;
 };
 
 /* Does not compile where the struct is not those numbers, one behind the other. */
@@ -148,6 +158,11 @@ uint32_t sv_set_filter(uint8_t *state, size_t state_length, uint32_t code, uint3
  * Refusals: 2, 1. */
 uint32_t sv_set_event_mask(uint8_t *state, size_t state_length, uint32_t event_mask);
 
+/* Sets the site that later events carry; raises nothing and changes no queued event. A negative offset may be passed as
+ * it is, for example -90: C converts it.
+ * Refusals: 2, 1. */
+uint32_t sv_set_site(uint8_t *state, size_t state_length, uint32_t offset, uint64_t second);
+
 /* ---- receiving */
 
 /* Raises an event; codes 1 to 3 hold the frame (raw identifier), other codes ignore it. Answers 100 to 103.
@@ -155,10 +170,10 @@ uint32_t sv_set_event_mask(uint8_t *state, size_t state_length, uint32_t event_m
 uint32_t sv_raise(uint8_t *state, size_t state_length, uint32_t code, uint32_t tick, uint32_t id, uint32_t format,
                   uint32_t rtr, uint32_t dlc, const uint8_t data[SV_AT_LEAST(8)], uint8_t *queue, size_t queue_length);
 
-/* Takes the oldest event from the queue as its 32 bytes.
+/* Takes the oldest event from the queue as its SV_EVENT bytes.
  * Refusals: 2, 4, 14. */
 uint32_t sv_read_record(uint8_t *state, size_t state_length, const uint8_t *queue, size_t queue_length,
-                        uint8_t out[SV_AT_LEAST(32)]);
+                        uint8_t out[SV_AT_LEAST(40)]);
 
 /* Takes the oldest event from the queue as a line of text, ended by LF; length is the line's.
  * Refusals: 2, 3 (room below SV_EVENT_ROOM), 4, 14. */
@@ -170,7 +185,7 @@ uint32_t sv_read_text(uint8_t *state, size_t state_length, const uint8_t *queue,
 uint32_t sv_look_number(const uint8_t *state, size_t state_length, const uint8_t *queue, size_t queue_length,
                         uint32_t p);
 
-/* Looks at position p without taking the event: its 32 bytes begin at queue + offset. They are not judged.
+/* Looks at position p without taking the event: its SV_EVENT bytes begin at queue + offset. They are not judged.
  * Refusals: 2, 4. */
 uint32_t sv_look(const uint8_t *state, size_t state_length, const uint8_t *queue, size_t queue_length, uint32_t p,
                  size_t *offset);
@@ -191,7 +206,7 @@ uint32_t sv_send(uint8_t *state, size_t state_length, uint32_t id, uint32_t form
 uint32_t sv_send_text(uint8_t *state, size_t state_length, const uint8_t *text, size_t text_length, uint8_t *send,
                       size_t send_length, size_t *used);
 
-/* Moves the oldest message to the transmit register and hands out its 16 bytes; may raise code 2 (TxMode).
+/* Moves the oldest message to the transmit register and hands out its SV_MESSAGE bytes; may raise code 2 (TxMode).
  * Refusals: 2, 5, 4, 14. */
 uint32_t sv_take(uint8_t *state, size_t state_length, uint32_t tick, const uint8_t *send, size_t send_length,
                  uint8_t *queue, size_t queue_length, uint8_t out[SV_AT_LEAST(16)]);

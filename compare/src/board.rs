@@ -1,6 +1,7 @@
 //! The proved recorder through its C interface (include/salmevidro.h).
 
 use crate::call::{Call, Places};
+use crate::state::site_words;
 use independent::{Message, Settings, EVENT_BYTES, MESSAGE_BYTES};
 
 type Bytes = *const u8;
@@ -21,6 +22,7 @@ extern "C" {
     fn sv_set_format(s: BytesMut, sl: usize, format: u32, tick: u32, queue: BytesMut, ql: usize) -> u32;
     fn sv_set_filter(s: BytesMut, sl: usize, code: u32, mask: u32) -> u32;
     fn sv_set_event_mask(s: BytesMut, sl: usize, event_mask: u32) -> u32;
+    fn sv_set_site(s: BytesMut, sl: usize, offset: u32, second: u64) -> u32;
     fn sv_raise(
         s: BytesMut,
         sl: usize,
@@ -107,6 +109,7 @@ extern "C" {
 // Each function below hands whole slices on, so what the header asks of its caller holds.
 
 pub fn open(state: &mut [u8], given: &Settings, queue: &[u8], send: &[u8]) -> u32 {
+    let [offset, second_low, second_high] = site_words(given.site);
     let settings = [
         given.mode,
         given.format,
@@ -118,6 +121,9 @@ pub fn open(state: &mut [u8], given: &Settings, queue: &[u8], send: &[u8]) -> u3
         given.queue_capacity,
         given.tx_mode,
         given.send_capacity,
+        offset,
+        second_low,
+        second_high,
     ];
     unsafe {
         sv_open(
@@ -228,6 +234,7 @@ fn other_call(
             Call::SetFormat { format, tick } => sv_set_format(s, sl, *format, *tick, q, ql),
             Call::SetFilter { code, mask } => sv_set_filter(s, sl, *code, *mask),
             Call::SetEventMask { events } => sv_set_event_mask(s, sl, *events),
+            Call::SetSite(site) => sv_set_site(s, sl, site.offset, site.second),
             Call::LookNumber { p } => sv_look_number(s, sl, q, ql, *p),
             Call::Look { p } => sv_look(s, sl, q, ql, *p, size),
             Call::IdentifiersThrough { format } => sv_identifiers_through(s, sl, *format, number),

@@ -1,7 +1,7 @@
 //! The public calls with what they are given, and where their values are handed back.
 
 use crate::lent::Lent;
-use independent::{Message, Settings, EVENT_BYTES, MESSAGE_BYTES};
+use independent::{Message, Settings, Site, EVENT_BYTES, MESSAGE_BYTES};
 
 #[derive(Clone, Debug)]
 pub enum Call {
@@ -10,6 +10,7 @@ pub enum Call {
     SetFormat { format: u32, tick: u32 },
     SetFilter { code: u32, mask: u32 },
     SetEventMask { events: u32 },
+    SetSite(Site),
     Raise { code: u32, tick: u32, frame: Message },
     ReadRecord,
     ReadText { room: usize },
@@ -27,12 +28,13 @@ pub enum Call {
 }
 
 /// The calls' names, in the order of `Call`, each with the numbers that it may answer.
-pub const KINDS: [(&str, &[u32]); 19] = [
+pub const KINDS: [(&str, &[u32]); 20] = [
     ("open", &[0, 1, 2]),
     ("set_mode", &[0, 2, 1]),
     ("set_format", &[0, 2, 1]),
     ("set_filter", &[0, 2]),
     ("set_event_mask", &[0, 2, 1]),
+    ("set_site", &[0, 2, 1]),
     ("raise", &[2, 13, 8, 9, 10, 100, 101, 102, 103]),
     ("read_record", &[0, 2, 4, 14]),
     ("read_text", &[0, 2, 3, 4, 14]),
@@ -61,20 +63,21 @@ impl Call {
             Call::SetFormat { .. } => 2,
             Call::SetFilter { .. } => 3,
             Call::SetEventMask { .. } => 4,
-            Call::Raise { .. } => 5,
-            Call::ReadRecord => 6,
-            Call::ReadText { .. } => 7,
-            Call::LookNumber { .. } => 8,
-            Call::Look { .. } => 9,
-            Call::IdentifiersThrough { .. } => 10,
-            Call::Send { .. } => 11,
-            Call::SendText { .. } => 12,
-            Call::Take { .. } => 13,
-            Call::Done { .. } => 14,
-            Call::Abort { .. } => 15,
-            Call::PrintMessageRecord { .. } => 16,
-            Call::PrintEventRecord { .. } => 17,
-            Call::PrintMessage { .. } => 18,
+            Call::SetSite(_) => 5,
+            Call::Raise { .. } => 6,
+            Call::ReadRecord => 7,
+            Call::ReadText { .. } => 8,
+            Call::LookNumber { .. } => 9,
+            Call::Look { .. } => 10,
+            Call::IdentifiersThrough { .. } => 11,
+            Call::Send { .. } => 12,
+            Call::SendText { .. } => 13,
+            Call::Take { .. } => 14,
+            Call::Done { .. } => 15,
+            Call::Abort { .. } => 16,
+            Call::PrintMessageRecord { .. } => 17,
+            Call::PrintEventRecord { .. } => 18,
+            Call::PrintMessage { .. } => 19,
         }
     }
 

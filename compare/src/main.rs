@@ -19,6 +19,7 @@ mod mood;
 mod second;
 mod session;
 mod sides;
+mod sites;
 mod speed;
 mod state;
 mod sum;

@@ -1,6 +1,7 @@
 //! Random settings, frames and records: mostly good, often at a limit, sometimes bad.
 
 use crate::draw::Draw;
+use crate::sites;
 use crate::state::set_word;
 use independent::{Device, Message, Settings, EVENT_BYTES, LARGEST_QUEUE, LARGEST_SEND_BUFFER, MESSAGE_BYTES};
 
@@ -22,6 +23,7 @@ pub fn settings(draw: &mut Draw) -> Settings {
         queue_capacity: capacity(draw, LARGEST_QUEUE),
         tx_mode: draw.pick(&[1, 3, 5, 7]),
         send_capacity: capacity(draw, LARGEST_SEND_BUFFER),
+        site: sites::site(draw),
     }
 }
 
@@ -63,17 +65,18 @@ pub fn filter(draw: &mut Draw, mask_active: u32) -> (u32, u32) {
 /// One setting out of its range.
 pub fn bad_settings(draw: &mut Draw) -> Settings {
     let mut given = settings(draw);
-    match draw.below(10) {
+    match draw.below(13) {
         0 => given.mode = 2 + draw.any_word() % 1_000,
         1 => given.format = 3 + draw.any_word() % 1_000,
         2 => (given.mode, given.format) = (0, 2),
         3 => given.align = 4 + draw.any_word() % 1_000,
         4 => given.mask_active = 2 + draw.any_word() % 1_000,
         5 => given.event_mask |= 1 << (12 + draw.below(20)),
-        6 => given.queue_capacity = draw.pick(&[0, 2_049, 4_096, u32::MAX]),
+        6 => given.queue_capacity = draw.pick(&[0, LARGEST_QUEUE + 1, 2_048, u32::MAX]),
         7 => given.tx_mode = draw.pick(&[0, 2, 4, 6, 8, 9, u32::MAX]),
         8 => given.send_capacity = draw.pick(&[0, LARGEST_SEND_BUFFER + 1, LARGEST_QUEUE, u32::MAX]),
-        _ => given.queue_capacity = 2_049 + draw.any_word() % 1_000_000,
+        9 => given.queue_capacity = LARGEST_QUEUE + 1 + draw.any_word() % 1_000_000,
+        _ => given.site = sites::bad_site(draw),
     }
     given
 }
@@ -162,7 +165,7 @@ pub fn message_record(draw: &mut Draw) -> Vec<u8> {
     record
 }
 
-/// 32 bytes of a good event.
+/// The bytes of a good event.
 pub fn event_record(draw: &mut Draw) -> Vec<u8> {
     let mut record = vec![0; EVENT_BYTES];
     let code = event_code(draw);
@@ -170,9 +173,20 @@ pub fn event_record(draw: &mut Draw) -> Vec<u8> {
         set_word(&mut record, at, word);
     }
     if (1..=3).contains(&code) {
-        record[16..].copy_from_slice(&message_record(draw));
+        record[16..sites::OFFSET_AT].copy_from_slice(&message_record(draw));
     }
+    sites::write_site(&mut record, sites::site(draw));
     record
+}
+
+/// An event record as `any_record` makes it, or with its offset out of range.
+pub fn any_event_record(draw: &mut Draw) -> Vec<u8> {
+    let mut good = event_record(draw);
+    if draw.one_in(8) {
+        sites::damage_offset(draw, &mut good);
+        return good;
+    }
+    any_record(draw, good)
 }
 
 pub fn event_code(draw: &mut Draw) -> u32 {
@@ -188,7 +202,7 @@ pub fn any_record(draw: &mut Draw, good: Vec<u8>) -> Vec<u8> {
     let mut record = good;
     match draw.below(8) {
         0 => damage(draw, &mut record),
-        1 => record.truncate(draw.pick(&[0, 1, 15, 31])),
+        1 => record.truncate(draw.pick(&[0, 1, 15, 31, 32, 39])),
         2 => record.extend_from_slice(&[0, 7][..1 + draw.size_below(2)]),
         3 => draw.fill(&mut record),
         _ => {}

@@ -5,7 +5,7 @@
 
 use crate::board;
 use crate::state::{set_rings, STATE};
-use independent::{Device, Message, Settings, EVENT_BYTES, EVENT_ROOM, MESSAGE_BYTES};
+use independent::{Device, Message, Settings, Site, EVENT_BYTES, EVENT_ROOM, MESSAGE_BYTES};
 use std::hint::black_box;
 
 /// How many calls a turn makes.
@@ -14,6 +14,9 @@ pub const CALLS: u32 = 1_000;
 pub type Texts = [&'static [u8]; 4];
 pub const MIXED: Texts =
     [b"731 0 4 11 22 33 44\n", b"7FF 0 8 DE AD BE EF 00 01 02 03\r\n", b"12 1 0\n", b"400 0 2 a5 5A\n"];
+
+/// Two hours east and a second of ten digits, so that lines have their usual length.
+const SITE: Site = Site { offset: 120, second: 1_700_000_000 };
 
 /// A call; with a raise the filter and the queue that it finds.
 #[derive(Clone, Copy)]
@@ -85,6 +88,7 @@ impl Beds {
             queue_capacity: slots,
             tx_mode: 7,
             send_capacity: places,
+            site: SITE,
         };
         let mut queue = vec![0; EVENT_BYTES * slots as usize];
         let mut send = vec![0; MESSAGE_BYTES * places as usize];

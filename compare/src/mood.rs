@@ -2,19 +2,19 @@
 
 use crate::call::{Call, KINDS};
 use crate::draw::Draw;
-use crate::{making, texts};
+use crate::{making, sites, texts};
 use independent::{Device, EVENT_ROOM, MESSAGE_ROOM};
 
 /// Weights in the order of `KINDS`.
 type Weights = [u32; KINDS.len()];
 
-// open mode format filter mask raise record text look_number look through send text take done abort print print print
-const FILL: Weights = [0, 1, 1, 0, 0, 150, 1, 1, 2, 2, 0, 2, 2, 2, 2, 0, 1, 1, 1];
-const DRAIN: Weights = [0, 0, 0, 0, 0, 8, 50, 50, 4, 4, 0, 2, 2, 2, 2, 0, 1, 1, 1];
-const FLOW: Weights = [0, 1, 1, 1, 1, 60, 20, 20, 6, 6, 1, 10, 10, 10, 10, 1, 1, 1, 1];
-const LOAD: Weights = [0, 0, 0, 0, 0, 4, 2, 2, 1, 1, 0, 70, 90, 2, 2, 0, 1, 1, 1];
-const UNLOAD: Weights = [0, 0, 0, 0, 0, 4, 8, 8, 1, 1, 0, 3, 3, 60, 50, 1, 1, 1, 1];
-const ANY: Weights = [1, 3, 3, 3, 3, 8, 4, 4, 4, 4, 4, 6, 12, 6, 5, 2, 5, 5, 5];
+// open mode format filter mask site raise record text look_number look through send text take done abort, three prints
+const FILL: Weights = [0, 1, 1, 0, 0, 3, 150, 1, 1, 2, 2, 0, 2, 2, 2, 2, 0, 1, 1, 1];
+const DRAIN: Weights = [0, 0, 0, 0, 0, 1, 8, 50, 50, 4, 4, 0, 2, 2, 2, 2, 0, 1, 1, 1];
+const FLOW: Weights = [0, 1, 1, 1, 1, 4, 60, 20, 20, 6, 6, 1, 10, 10, 10, 10, 1, 1, 1, 1];
+const LOAD: Weights = [0, 0, 0, 0, 0, 1, 4, 2, 2, 1, 1, 0, 70, 90, 2, 2, 0, 1, 1, 1];
+const UNLOAD: Weights = [0, 0, 0, 0, 0, 1, 4, 8, 8, 1, 1, 0, 3, 3, 60, 50, 1, 1, 1, 1];
+const ANY: Weights = [1, 3, 3, 3, 3, 4, 8, 4, 4, 4, 4, 4, 6, 12, 6, 5, 2, 5, 5, 5];
 
 /// A mood and for how many calls it stays.
 pub struct Mood {
@@ -77,7 +77,7 @@ impl Mood {
     /// The next call; `stream` is what is left of the texts sent last.
     pub fn call(&self, draw: &mut Draw, device: &Device, stream: &[u8]) -> Call {
         let kind = self.kind(draw);
-        if kind >= 11 {
+        if kind >= 12 {
             return send_side(draw, device, kind, stream);
         }
         let tick = draw.any_word();
@@ -90,11 +90,12 @@ impl Mood {
                 Call::SetFilter { code, mask }
             }
             4 => Call::SetEventMask { events: events(draw) },
-            5 => raise(draw, tick),
-            6 => Call::ReadRecord,
-            7 => Call::ReadText { room: making::room(draw, EVENT_ROOM) },
-            8 => Call::LookNumber { p: position(draw, device) },
-            9 => Call::Look { p: position(draw, device) },
+            5 => Call::SetSite(if draw.one_in(3) { sites::bad_site(draw) } else { sites::site(draw) }),
+            6 => raise(draw, tick),
+            7 => Call::ReadRecord,
+            8 => Call::ReadText { room: making::room(draw, EVENT_ROOM) },
+            9 => Call::LookNumber { p: position(draw, device) },
+            10 => Call::Look { p: position(draw, device) },
             _ => Call::IdentifiersThrough { format: small(draw, 3) },
         }
     }
@@ -104,20 +105,17 @@ fn send_side(draw: &mut Draw, device: &Device, kind: usize, stream: &[u8]) -> Ca
     let tick = draw.any_word();
     let bad = draw.one_in(8);
     match kind {
-        11 => Call::Send { message: making::message_to_send(draw, device, bad) },
-        12 if !stream.is_empty() && !draw.one_in(4) => Call::SendText { text: stream.to_vec() },
-        12 => Call::SendText { text: texts::text(draw, device) },
-        13 => Call::Take { tick },
-        14 => Call::Done { tick },
-        15 => Call::Abort { tick },
-        16 => {
+        12 => Call::Send { message: making::message_to_send(draw, device, bad) },
+        13 if !stream.is_empty() && !draw.one_in(4) => Call::SendText { text: stream.to_vec() },
+        13 => Call::SendText { text: texts::text(draw, device) },
+        14 => Call::Take { tick },
+        15 => Call::Done { tick },
+        16 => Call::Abort { tick },
+        17 => {
             let good = making::message_record(draw);
             Call::PrintMessageRecord { record: making::any_record(draw, good), room: making::room(draw, MESSAGE_ROOM) }
         }
-        17 => {
-            let good = making::event_record(draw);
-            Call::PrintEventRecord { record: making::any_record(draw, good), room: making::room(draw, EVENT_ROOM) }
-        }
+        18 => Call::PrintEventRecord { record: making::any_event_record(draw), room: making::room(draw, EVENT_ROOM) },
         _ => {
             let message = if draw.one_in(3) { making::bad_frame(draw) } else { making::good_frame(draw) };
             Call::PrintMessage { message, room: making::room(draw, MESSAGE_ROOM) }

@@ -43,6 +43,7 @@ fn on_device(call: &Call, kept: &mut Kept, queue: &mut [u8], send: &mut [u8], pl
         Call::SetFormat { format, tick } => device.set_format(*format, *tick, queue),
         Call::SetFilter { code, mask } => device.set_filter(*code, *mask),
         Call::SetEventMask { events } => device.set_event_mask(*events),
+        Call::SetSite(site) => device.set_site(site.offset, site.second),
         Call::Raise { code, tick, frame } => device.raise(*code, *tick, frame, queue),
         Call::ReadRecord => hand_bytes(device.read_record(queue), out),
         Call::ReadText { .. } => hand(device.read_text(queue, out), size),

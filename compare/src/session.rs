@@ -5,7 +5,8 @@ use crate::draw::Draw;
 use crate::making;
 use crate::mood::Mood;
 use crate::sides::Sides;
-use crate::state::{register_bytes, set_word, Kept, HELD_AT, REGISTER_AT, STATE};
+use crate::sites;
+use crate::state::{register_bytes, set_site, set_word, Kept, DATA_AT, HELD_AT, REGISTER_AT, STATE};
 use crate::sum::{raised, Found, Sum};
 use crate::tally::{Deep, Tally};
 use crate::texts::values_before_end;
@@ -119,12 +120,16 @@ impl<'run> Session<'run> {
         let seed = self.draw.next();
         self.sides.write_tables(|queue, send| {
             let mut draw = Draw::new(seed);
-            if draw.one_in(2) {
-                making::damage(&mut draw, &mut queue[event_at.clone()]);
-                making::damage(&mut draw, &mut send[message_at.clone()]);
-            } else {
-                making::damage(&mut draw, queue);
-                making::damage(&mut draw, send);
+            match draw.below(3) {
+                0 => sites::damage_offset(&mut draw, &mut queue[event_at.clone()]),
+                1 => {
+                    making::damage(&mut draw, &mut queue[event_at.clone()]);
+                    making::damage(&mut draw, &mut send[message_at.clone()]);
+                }
+                _ => {
+                    making::damage(&mut draw, queue);
+                    making::damage(&mut draw, send);
+                }
             }
         });
     }
@@ -134,20 +139,7 @@ impl<'run> Session<'run> {
     fn odd_state(&mut self, call: &Call) -> Result<(), String> {
         let before = self.sides.second.state.bytes();
         let mut bytes = before.clone();
-        let mut met = Deep::StateNumbers;
-        match self.draw.below(6) {
-            0 => self.draw.fill(&mut bytes),
-            1 => {
-                set_word(&mut bytes, HELD_AT, 2 + self.draw.any_word() % 1_000_000);
-                met = Deep::HeldAboveOne;
-            }
-            2 => self.draw.fill(&mut bytes[REGISTER_AT..]),
-            _ => {
-                let place = 4 * self.draw.size_below(20);
-                let word = if self.draw.one_in(2) { self.draw.any_word() } else { self.draw.word_below(9) };
-                set_word(&mut bytes, place, word);
-            }
-        }
+        let met = self.overwrite_state(&mut bytes);
         self.sides.set_state(self.draw, &bytes);
         let number = self.made(call, self.full)?;
         if number == 2 {
@@ -157,6 +149,29 @@ impl<'run> Session<'run> {
             self.sides.set_state(self.draw, &before);
         }
         Ok(())
+    }
+
+    /// Overwrites numbers of a state, which may still be good; answers what is met if they are refused.
+    fn overwrite_state(&mut self, bytes: &mut [u8]) -> Deep {
+        match self.draw.below(8) {
+            0 => self.draw.fill(bytes),
+            1 => {
+                set_word(bytes, HELD_AT, 2 + self.draw.any_word() % 1_000_000);
+                return Deep::HeldAboveOne;
+            }
+            2 => self.draw.fill(&mut bytes[REGISTER_AT..]),
+            3 => {
+                set_site(bytes, sites::bad_site(self.draw));
+                return Deep::StateSite;
+            }
+            4 => set_site(bytes, sites::site(self.draw)),
+            _ => {
+                let place = 4 * self.draw.size_below(DATA_AT / 4);
+                let word = if self.draw.one_in(2) { self.draw.any_word() } else { self.draw.word_below(9) };
+                set_word(bytes, place, word);
+            }
+        }
+        Deep::StateNumbers
     }
 
     /// Whether the state is one that the whole tables fit, asked of the second implementation itself.
@@ -175,7 +190,7 @@ impl<'run> Session<'run> {
         let mut lengths = self.full;
         let met = match self.draw.below(3) {
             0 => {
-                let length = self.draw.pick(&[0, 1, 64, 87, 89, 96, 176]);
+                let length = self.draw.pick(&[0, 1, 64, 88, 99, 101, 112, 200]);
                 let bytes: Vec<u8> = before.iter().copied().cycle().take(length).collect();
                 self.sides.set_state(self.draw, &bytes);
                 Deep::StateLength
@@ -227,7 +242,7 @@ impl<'run> Session<'run> {
 
     fn call(&mut self, call: &Call, lengths: Lengths) -> Result<(), String> {
         let number = self.made(call, lengths)?;
-        let possible = !(self.clean && (number == 2 || number == 14 && call.kind() < 16));
+        let possible = !(self.clean && (number == 2 || number == 14 && call.kind() < 17));
         if possible {
             return Ok(());
         }
@@ -285,6 +300,7 @@ impl<'run> Session<'run> {
             return;
         };
         if is_refusal(number) {
+            self.count_damage(call, number, &was);
             return;
         }
         self.count_rings(&now);
@@ -310,6 +326,10 @@ impl<'run> Session<'run> {
         let deep = match call {
             Call::Raise { .. } if number == 103 && limit => Deep::PendingAtLimit,
             Call::ReadRecord | Call::ReadText { .. } if self.read_lost(was) > 0 => Deep::LostCountRead,
+            Call::ReadRecord | Call::ReadText { .. } if sites::minutes_in(self.read_slot(was)) < 0 => {
+                Deep::OffsetBelowZeroRead
+            }
+            Call::SetSite(_) if was.receive.ring.count > 0 => Deep::SiteSetWhileQueued,
             Call::Abort { .. } if was.send.ring.count > 0 => Deep::Purged,
             Call::Abort { .. } if was.send.register.is_some() => Deep::RaisedByAbort,
             Call::Take { .. } if raised(call, was, now).is_some() => Deep::RaisedByTake,
@@ -320,10 +340,22 @@ impl<'run> Session<'run> {
         self.tally.deep(deep);
     }
 
-    /// The lost count in the slot that a read took.
-    fn read_lost(&self, was: &Device) -> u32 {
+    /// A slot that is refused, at least, for its offset.
+    fn count_damage(&mut self, call: &Call, number: u32, was: &Device) {
+        let is_read = matches!(call, Call::ReadRecord | Call::ReadText { .. });
+        if number == 14 && is_read && sites::offset_is_bad(self.read_slot(was)) {
+            self.tally.deep(Deep::OffsetDamaged);
+        }
+    }
+
+    /// The slot that a read took, or refused.
+    fn read_slot(&self, was: &Device) -> &[u8] {
         let slot = EVENT_BYTES * was.receive.ring.first as usize;
-        crate::state::word_at(self.sides.second.queue.part(), slot + 12)
+        &self.sides.second.queue.part()[slot..slot + EVENT_BYTES]
+    }
+
+    fn read_lost(&self, was: &Device) -> u32 {
+        crate::state::word_at(self.read_slot(was), 12)
     }
 }
 

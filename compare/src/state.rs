@@ -1,14 +1,15 @@
-//! The second implementation's device as the 88 bytes that include/salmevidro.h describes.
+//! The second implementation's device as the 100 bytes that include/salmevidro.h describes.
 
-use independent::{Device, Message, ReceiveSide, Ring, SendSide, Shared};
+use independent::{Device, Message, ReceiveSide, Ring, SendSide, Shared, Site};
 
-pub const STATE: usize = 88;
-pub const HELD_AT: usize = 60;
-pub const REGISTER_AT: usize = 64;
-const DATA_AT: usize = 80;
+pub const STATE: usize = 100;
+const SITE_AT: usize = 12;
+pub const HELD_AT: usize = 72;
+pub const REGISTER_AT: usize = 76;
+pub const DATA_AT: usize = 92;
 /// Where the queue's and the send buffer's `first` stand; `count` is behind it.
-const QUEUE_FIRST_AT: usize = 32;
-const BUFFER_FIRST_AT: usize = 52;
+const QUEUE_FIRST_AT: usize = 44;
+const BUFFER_FIRST_AT: usize = 64;
 
 /// A device, and what stands in the place of a register that holds nothing.
 #[derive(Clone, Debug)]
@@ -38,6 +39,17 @@ pub fn set_rings(bytes: &mut [u8], queue: (u32, u32), send: (u32, u32)) {
     for (at, (first, count)) in [(QUEUE_FIRST_AT, queue), (BUFFER_FIRST_AT, send)] {
         set_word(bytes, at, first);
         set_word(bytes, at + 4, count);
+    }
+}
+
+/// A site as a state keeps it and as opening is given it: offset, low half and high half of the second.
+pub fn site_words(site: Site) -> [u32; 3] {
+    [site.offset, site.second as u32, (site.second >> 32) as u32]
+}
+
+pub fn set_site(bytes: &mut [u8], site: Site) {
+    for (place, word) in site_words(site).iter().enumerate() {
+        set_word(bytes, SITE_AT + 4 * place, *word);
     }
 }
 
@@ -76,10 +88,14 @@ impl Kept {
 
     pub fn bytes(&self) -> [u8; STATE] {
         let (shared, receive, send) = (self.device.shared, self.device.receive, self.device.send);
+        let [offset, second_low, second_high] = site_words(shared.site);
         let numbers = [
             shared.mode,
             shared.format,
             shared.align,
+            offset,
+            second_low,
+            second_high,
             receive.mask_active,
             receive.code,
             receive.mask,
@@ -117,17 +133,18 @@ pub fn register_bytes(held: &Message) -> [u8; STATE - REGISTER_AT] {
 fn device_in(bytes: &[u8]) -> Device {
     let number = |place: usize| word_at(bytes, 4 * place);
     let ring = |place: usize| Ring { capacity: number(place), first: number(place + 1), count: number(place + 2) };
+    let site = Site { offset: number(3), second: u64::from(number(4)) + (u64::from(number(5)) << 32) };
     Device {
-        shared: Shared { mode: number(0), format: number(1), align: number(2) },
+        shared: Shared { mode: number(0), format: number(1), align: number(2), site },
         receive: ReceiveSide {
-            mask_active: number(3),
-            code: number(4),
-            mask: number(5),
-            event_mask: number(6),
-            ring: ring(7),
-            pending: number(10),
+            mask_active: number(6),
+            code: number(7),
+            mask: number(8),
+            event_mask: number(9),
+            ring: ring(10),
+            pending: number(13),
         },
-        send: SendSide { tx_mode: number(11), ring: ring(12), register: (number(15) == 1).then(|| register_in(bytes)) },
+        send: SendSide { tx_mode: number(14), ring: ring(15), register: (number(18) == 1).then(|| register_in(bytes)) },
     }
 }
 

@@ -24,15 +24,19 @@ pub enum Deep {
     StateLength,
     HeldAboveOne,
     StateNumbers,
+    StateSite,
     ShortQueue,
     ShortSend,
     SumChecked,
+    SiteSetWhileQueued,
+    OffsetBelowZeroRead,
+    OffsetDamaged,
 }
 
-const DEEP: [&str; 20] = [
+const DEEP: [&str; 24] = [
     "event queue full",
     "event queue wrapped round",
-    "queue of 2,048 full",
+    "queue of 1,638 full",
     "send buffer full",
     "send buffer wrapped round",
     "buffer of 1,024 full",
@@ -47,9 +51,13 @@ const DEEP: [&str; 20] = [
     "state of a wrong length",
     "held above 1",
     "state numbers no device has",
+    "state with a site out of range",
     "queue table too short",
     "send table too short",
     "sum over the tables checked",
+    "site set while events are queued",
+    "offset below zero read",
+    "slot with an offset out of range",
 ];
 
 #[derive(Default)]

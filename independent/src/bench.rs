@@ -4,6 +4,7 @@ use crate::device::Device;
 use crate::numbers::{NO_END, SUCCESS};
 use crate::records::{EVENT_BYTES, MESSAGE_BYTES};
 use crate::settings::Settings;
+use crate::site::Site;
 
 /// Bytes past these are not read.
 pub const INPUT_LIMIT: usize = 65_536;
@@ -20,6 +21,7 @@ const BENCH_SETTINGS: Settings = Settings {
     queue_capacity: 1,
     tx_mode: 1,
     send_capacity: 1,
+    site: Site::ZERO,
 };
 
 /// Sends each message text of the input in turn and answers the whole output.

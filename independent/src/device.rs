@@ -5,6 +5,7 @@ use crate::numbers::{answer, refuse_if, Outcome, IMPOSSIBLE_STATE, SETTING_OUT_O
 use crate::records::{Message, EVENT_BYTES, MESSAGE_BYTES};
 use crate::ring::Ring;
 use crate::settings::{default_format, Settings};
+use crate::site::Site;
 
 /// One CAN device with one send buffer and one receive channel.
 /// The fields are plain, so a caller may build states that no channel can have: refusal 2.
@@ -21,6 +22,7 @@ pub struct Shared {
     pub mode: u32,
     pub format: u32,
     pub align: u32,
+    pub site: Site,
 }
 
 /// The receive channel: filter, event mask, event queue and the pending lost count.
@@ -63,6 +65,7 @@ impl Device {
                 mode: settings.mode,
                 format: settings.format,
                 align: settings.align,
+                site: settings.site,
             },
             receive: ReceiveSide {
                 mask_active: settings.mask_active,
@@ -93,6 +96,7 @@ impl Device {
             queue_capacity: self.receive.ring.capacity,
             tx_mode: self.send.tx_mode,
             send_capacity: self.send.ring.capacity,
+            site: self.shared.site,
         }
     }
 

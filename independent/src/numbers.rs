@@ -35,9 +35,14 @@ pub(crate) fn refuse_if(condition: bool, number: u32) -> Outcome<()> {
 
 /// "A refusal returns its number and zero values."
 pub(crate) fn answer<T: Default>(outcome: Outcome<T>) -> (u32, T) {
+    answer_or(outcome, T::default())
+}
+
+/// The same for a value without a default, as arrays past 32 bytes are.
+pub(crate) fn answer_or<T>(outcome: Outcome<T>, zero: T) -> (u32, T) {
     match outcome {
         Ok(value) => (SUCCESS, value),
-        Err(number) => (number, T::default()),
+        Err(number) => (number, zero),
     }
 }
 

@@ -1,8 +1,9 @@
-//! Settings and their ranges (01, "Settings").
+//! Settings and their ranges (01, "Settings"; 02, M-106).
 
 use crate::ids::{EXTENDED, STANDARD};
+use crate::site::Site;
 
-pub const LARGEST_QUEUE: u32 = 2_048;
+pub const LARGEST_QUEUE: u32 = 1_638;
 pub const LARGEST_SEND_BUFFER: u32 = 1_024;
 
 /// Event mask bits 0 to 11; bits 12 to 31 must be 0.
@@ -21,6 +22,7 @@ pub struct Settings {
     pub queue_capacity: u32,
     pub tx_mode: u32,
     pub send_capacity: u32,
+    pub site: Site,
 }
 
 impl Settings {
@@ -36,6 +38,7 @@ impl Settings {
             && (1..=LARGEST_QUEUE).contains(&self.queue_capacity)
             && matches!(self.tx_mode, 1 | 3 | 5 | 7)
             && (1..=LARGEST_SEND_BUFFER).contains(&self.send_capacity)
+            && self.site.in_range()
     }
 }
 

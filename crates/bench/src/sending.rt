@@ -28,6 +28,7 @@ fn settings() -> Settings {
         queue: 1,
         tx: 1,
         buffer: 1,
+        site: sites::records::no_site(),
     }
 }
 

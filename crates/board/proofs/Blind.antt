@@ -14,19 +14,21 @@ use Rattle.inbox.specs.Calls as Inbox
 use Rattle.buffer.specs.Channel.{goodSend}
 use Rattle.outbox.specs.Refusals.{doneRefusal, abortRefusal}
 use Rattle.outbox.specs.Calls as Outbox
+use Rattle.sites.specs.Sites.{goodSite}
+use Rattle.sites.specs.declared.Site.{Site}
 use Rattle.device.specs.State.{good}
 use Rattle.device.specs.Outcomes.{Lent, Outcome, refuses}
 use Rattle.recorder.specs.Outcomes.{queueReady, noted}
 use Rattle.recorder.specs.Receiving.{lifted, onReceiving, raised, recordRead, textRead, lookSaid, through}
-use Rattle.recorder.specs.Changes.{changed, filterSet, eventMaskSet}
+use Rattle.recorder.specs.Changes.{changed, siteSet, filterSet, eventMaskSet}
 use Rattle.recorder.specs.Register.{carrying, taken, finished, aborted}
 use Rattle.recorder.specs.Sending.{sent, textSent}
 use Rattle.recorder.specs.Printing.{linePrinted}
 use Rattle.device.specs.declared.Device.{Device}
 use Rattle.model.specs.Inbox.{readRecord, readText, look, setFilter, setEventMask, identifiersThrough}
 use Rattle.model.specs.Outbox.{send, sendText, take, done, abort}
-use Rattle.model.specs.Box.{raise, setMode, setFormat, printMessageRecord, printEventRecord, printMessage, Call}
-use Rattle.model.specs.Box.{onDevice, onReceive, onSend, onAlign}
+use Rattle.model.specs.Box.{raise, setMode, setFormat, setSite, printMessageRecord, printEventRecord, printMessage}
+use Rattle.model.specs.Box.{Call, onDevice, onReceive, onSend, onAlign}
 use Rattle.promises.specs.Calls.{outcome}
 use Rattle.board.specs.Board.{Borrows, borrows, borrowed, lentTo, whole}
 
@@ -146,6 +148,13 @@ module _ (d : Device) (l : Lent) where
       → Blind v (refuses 2 d) → Blind v (onReceiving (pick c a b) d)
   unlent v c a b x y z = both (λ o. whole v l o) (goodSend (d .send)) (either v c a b x y) z
 
+  -- another site
+  site-blind : (site : Site) → Blind (borrows false false false) (siteSet site d)
+  unfolding siteSet
+  site-blind site =
+      let f : Outcome → Outcome = λ o. whole (borrows false false false) l o in
+      both f (good d) (both f (goodSite site) refl refl) refl
+
   -- a change of the filter
   filter-blind : (code mask : ℕ) → Blind (borrows false false false) (filterSet code mask d)
   unfolding filterSet Inbox.filterSet
@@ -171,6 +180,7 @@ unfolding outcome borrowed lookSaid
 blind (onDevice (raise code tick m)) d l = raised-blind d l code tick m
 blind (onDevice (setMode mode tick)) d l = changed-blind d l _ tick
 blind (onDevice (setFormat format tick)) d l = changed-blind d l _ tick
+blind (onDevice (setSite site)) d l = site-blind d l site
 blind (onReceive readRecord) d l = record-blind d l
 blind (onReceive readText) d l = text-blind d l
 blind (onReceive (look p)) d l = refl

@@ -108,7 +108,7 @@ says-from (x ∷ xs) r b h (a ∷ rest) w =
 
 -- ---- from an sv_open that answers 0
 
--- ten settings, and it is the recorder's opening
+-- thirteen settings, and it is the recorder's opening
 same-opening : (given s : List ℕ) (l : Lent) → openedOn given s l .number ≡ 0
     → openedOn given s l ≡ opened (settingsIn given) l
 unfolding openedOn

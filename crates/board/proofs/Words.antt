@@ -1,4 +1,4 @@
--- A device that stands for a box is kept whole by its 88 bytes: all its numbers have 32 bits.
+-- A device that stands for a box is kept whole by its bytes: all its numbers have 32 bits.
 use mathlib.Core.Path.{_≡_, refl, _∙_}
 use mathlib.Core.Bool.{Bool, true, false, _&&_, _||_}
 use mathlib.Core.List.{List, [], _∷_, _++_}
@@ -8,7 +8,9 @@ use native.Mathlib.Omega.{arith}
 use lib.ListN.{length, length-append, getD}
 use lib.Dec.{leb, eqb}
 use borrow.Author.Tests.{eqb-true, eq-eqb, le-leb, leb-true, ltb-true}
+use Rattle.common.specs.All.{All}
 use Rattle.common.specs.Choice.{pick}
+use Rattle.common.proofs.All.{all-append}
 use Rattle.common.proofs.Bools.{and-left, and-right}
 use Rattle.common.proofs.RingFacts.{good-ring}
 use Rattle.filters.specs.Filters.{modeTakes}
@@ -16,7 +18,10 @@ use Rattle.filters.specs.EventMask.{isMask}
 use Rattle.ids.proofs.Frames.{good-header, good-id, good-format}
 use Rattle.messages.specs.declared.Message.{Message}
 use Rattle.messages.proofs.RoundTrip.{good-refusal}
+use Rattle.sites.specs.Sites.{goodSite}
+use Rattle.sites.proofs.Good.{good-offset, good-site}
 use Rattle.settings.specs.Ranges.{goodShared}
+use Rattle.settings.proofs.Laws.{site-in-range}
 use Rattle.settings.specs.TxMode.{goodTx}
 use Rattle.settings.specs.declared.Shared.{Shared}
 use Rattle.queue.specs.Channel.{queueLimit}
@@ -28,18 +33,13 @@ use Rattle.model.specs.Inbox.{Inbox}
 use Rattle.model.specs.Outbox.{Outbox}
 use Rattle.model.specs.Box.{Box}
 use Rattle.promises.specs.Typed.{Word}
-use Rattle.promises.specs.Stands.{All, Receives, Register, Sends, Stands}
+use Rattle.promises.specs.Stands.{Receives, Register, Sends, Stands}
 use Rattle.layout.specs.Parts.{sharedNumbers, receiveNumbers, sendNumbers, wordBytes, word}
 use Rattle.kept.specs.State.{stateNumbers, stateBytes, stateSize, deviceIn, isState}
 use Rattle.layout.proofs.RoundTrip.{word-words}
 use Rattle.kept.proofs.RoundTrip.{device-back}
 
 -- ---- lists of 32-bit numbers
-
--- what holds of two lists holds of both behind each other
-all-append : {A : Type 0} (P : A → Type 0) (xs ys : List A) → All P xs → All P ys → All P (xs ++ ys)
-all-append P [] ys h g = g
-all-append P (x ∷ xs) ys h g = (h .0, all-append P xs ys (h .1) g)
 
 -- wherever such a list is read
 words-below : (ns : List ℕ) → All Word ns → (k : ℕ) → getD ns k 0 < 4294967296
@@ -56,12 +56,15 @@ shared-words s h =
     let a = leb (s .mode) 1 in
     let b = leb (s .format) 2 in
     let c = modeTakes (s .mode) (s .format) in
-    let abc = and-left (a && b && c) (leb (s .align) 3) h in
+    let abcd = and-left (a && b && c && leb (s .align) 3) (goodSite (s .site)) h in
+    let abc = and-left (a && b && c) (leb (s .align) 3) abcd in
     let ab = and-left (a && b) c abc in
     let mode = leb-true (s .mode) 1 (and-left a b ab) in
     let format = leb-true (s .format) 2 (and-right a b ab) in
-    let align = leb-true (s .align) 3 (and-right (a && b && c) (leb (s .align) 3) h) in
-    (omega arith, (omega arith, (omega arith, tt)))
+    let align = leb-true (s .align) 3 (and-right (a && b && c) (leb (s .align) 3) abcd) in
+    let site = good-site (s .site) (site-in-range s h) in
+    let offset : Word (s .site .offset) = good-offset (s .site .offset) (site .0) (λ l. omega arith) (λ l m. m) in
+    (omega arith, (omega arith, (omega arith, (offset, (omega arith, (omega (arith, site .1), tt))))))
 
 -- a receive channel that stands for an inbox
 receive-words : (r : Receive) (q : List ℕ) (b : Inbox) → Receives r q b → All Word (receiveNumbers r)
@@ -115,7 +118,7 @@ send-words s t o h =
 
 -- ---- the device
 
--- all twenty numbers of a device that stands for a box have 32 bits
+-- all numbers of a device that stands for a box have 32 bits
 device-words : (d : Device) (q t : List ℕ) (b : Box) → Stands d q t b → All Word (stateNumbers d)
 device-words d q t b h =
     all-append Word (sharedNumbers (d .shared)) (receiveNumbers (d .receive) ++ sendNumbers (d .send))
@@ -132,11 +135,11 @@ device-state d w l =
     let b = d .send .message .bytes in
     let long : length (wordBytes (stateNumbers d) ++ b) ≡ stateSize = length-append (wordBytes (stateNumbers d)) b
     ∙ rw l in
-    let held = word-words (stateNumbers d) b 15 (omega arith) (words-below (stateNumbers d) w 15) in
+    let held = word-words (stateNumbers d) b 18 (omega arith) (words-below (stateNumbers d) w 18) in
     rw (eq-eqb (length (wordBytes (stateNumbers d) ++ b)) stateSize long, held)
     (le-leb (pick (d .send .held) 1 0) 1 (held-below (d .send .held)))
 
--- THEOREM. A device that stands for a box is kept whole: its 88 bytes are a state, and stand for it
+-- THEOREM. A device that stands for a box is kept whole: its bytes are a state, and stand for it
 pub stands-back : (d : Device) (q t : List ℕ) (b : Box) → Stands d q t b
     → (isState (stateBytes d) ≡ true) × (deviceIn (stateBytes d) ≡ d)
 stands-back d q t b h =

@@ -13,7 +13,7 @@ use Rattle.device.specs.Opening.{opened}
 use Rattle.device.specs.declared.Device.{Device}
 use Rattle.model.specs.Inbox.{ReceiveCall, readRecord, readText, look, setFilter, setEventMask, identifiersThrough}
 use Rattle.model.specs.Outbox.{SendCall, send, sendText, take, done, abort}
-use Rattle.model.specs.Box.{Call, onDevice, onReceive, onSend, onAlign}
+use Rattle.model.specs.Box.{DeviceCall, raise, setMode, setFormat, setSite, Call, onDevice, onReceive, onSend, onAlign}
 use Rattle.promises.specs.Calls.{outcome}
 use Rattle.kept.specs.State.{stateSize, stateBytes, deviceIn, isState}
 use Rattle.kept.specs.Handing.{left}
@@ -27,6 +27,13 @@ pub record Borrows : Type 0 where
 -- the three, in that order
 abbrev pub borrows : Bool → Bool → Bool → Borrows
 borrows q t o = record { queue = q; send = t; out = o }
+
+-- what a call on the device is lent
+abbrev pub deviceBorrows : DeviceCall → Borrows
+deviceBorrows (raise code tick m) = borrows true false false
+deviceBorrows (setMode mode tick) = borrows true false false
+deviceBorrows (setFormat format tick) = borrows true false false
+deviceBorrows (setSite site) = borrows false false false
 
 -- what a call on the receive channel is lent
 abbrev pub receiveBorrows : ReceiveCall → Borrows
@@ -47,7 +54,7 @@ sendBorrows (abort tick) = borrows true false false
 
 -- what any call is lent
 unfoldable pub borrowed : Call → Borrows
-borrowed (onDevice x) = borrows true false false
+borrowed (onDevice x) = deviceBorrows x
 borrowed (onReceive x) = receiveBorrows x
 borrowed (onSend x) = sendBorrows x
 borrowed (onAlign x) = borrows false false true

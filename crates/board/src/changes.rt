@@ -1,8 +1,9 @@
 // Changes of setting.
+use sites::Site;
 ghost use mathlib.Core.List.{[]};
 ghost use Rattle.device.specs.Outcomes.{Outcome, lends};
 ghost use Rattle.model.specs.Inbox.{setFilter, setEventMask};
-ghost use Rattle.model.specs.Box.{onDevice, onReceive, setMode, setFormat};
+ghost use Rattle.model.specs.Box.{onDevice, onReceive, setMode, setFormat, setSite};
 ghost use Rattle.board.specs.Board.{called, Called};
 
 // Sets the mode.
@@ -34,6 +35,26 @@ pub extern "C" fn sv_set_format(state: &mut [u8], format: u32, tick: u32, queue:
     }
     let d = kept::state::device_in(state);
     let r = recorder::changes::set_format(d, format, tick, queue);
+    kept::handing::leave(state, r.number, r.device)
+}
+
+// Sets the site of later events; its offset is a 32-bit number in two's complement.
+#[no_mangle]
+pub extern "C" fn sv_set_site(state: &mut [u8], offset: u32, second: u64) -> u32
+    ensures { λ n.
+        let o : Outcome = called (onDevice (setSite (record { offset = offset; second = second }))) (now (state .entry))
+        (lends [] [] []) in
+        ⌜ Called o (now (state .entry)) n (now (state .exit)) (lends [] [] []) ⌝ }
+{
+    if !kept::state::is_state(state) {
+        return 2;
+    }
+    let d = kept::state::device_in(state);
+    let site = Site {
+        offset: offset,
+        second: second,
+    };
+    let r = recorder::changes::set_site(d, site);
     kept::handing::leave(state, r.number, r.device)
 }
 

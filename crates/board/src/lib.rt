@@ -1,4 +1,4 @@
-// The C interface: every public call of the recorder, over a device that is kept in 88 lent bytes.
+// The C interface: every public call of the recorder, over a device that is kept in 100 lent bytes.
 mod changes;
 mod opening;
 mod printing;

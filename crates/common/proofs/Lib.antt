@@ -1,3 +1,4 @@
+pub mod All
 pub mod Among
 pub mod Bools
 pub mod Choices

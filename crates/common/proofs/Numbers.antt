@@ -3,10 +3,10 @@ use mathlib.Core.Path.{_≡_, refl, sym, ap, _∙_}
 use mathlib.Core.List.{List, [], _∷_, _++_}
 use mathlib.Core.Bool.{Bool, true, false, _&&_}
 use Prim.Native.Nat.{ℕ, zero, suc, _+_, _-_, _*_, _/_, _%_, _^_, _<_}
-use native.Mathlib.Nat.{pow-succ', pow-zero, mod-one, mod-lt}
-use native.Mathlib.Nat.{mod-eq-of-lt, div-add-mod, mul-assoc, add-mul-mod-self-left}
+use native.Mathlib.Nat.{pow-succ', pow-zero, mod-one, mod-lt, mod-eq-of-lt, div-add-mod, mul-assoc}
+use native.Mathlib.Nat.{add-mul-mod-self-left}
 use native.Mathlib.Omega.{arith}
-use lib.ListN.{length, getD, take, drop, replicate}
+use lib.ListN.{length, take, drop, replicate}
 use lib.Dec.{eqb, ltb}
 use borrow.Author.Tests.{eq-eqb, ne-eqb, eqb-true, eqb-false, ltb-true, ltb-false, lt-ltb, le-ltb}
 use Rattle.common.specs.Numbers.{Bytes, bytesOf, numberOf, allZero}
@@ -43,6 +43,11 @@ sum-zero x n true true p q =
     let e = eqb-true x 0 p in let f = eqb-true n 0 q in sym (eq-eqb (x + 256 * n) 0 (omega arith))
 sum-zero x n true false p q = sym (ne-eqb (x + 256 * n) 0 (λ e. eqb-false n 0 q (omega arith)))
 sum-zero x n false b p q = sym (ne-eqb (x + 256 * n) 0 (λ e. eqb-false x 0 p (omega arith)))
+
+pub number-below : (bs : List ℕ) → Bytes bs → numberOf bs < 256 ^ length bs
+number-below [] g = rw pow-zero (omega arith)
+number-below (b ∷ bs) g =
+    let l : b < 256 = g 0 in rw pow-succ' (omega (arith, number-below bs (λ i. g (suc i))))
 
 pub zero-number : (bs : List ℕ) → allZero bs ≡ eqb (numberOf bs) 0
 zero-number [] = refl

@@ -2,6 +2,7 @@
 use mathlib.Core.Bool.{Bool, false, _&&_}
 use Rattle.common.specs.Rings.{emptyRing}
 use Rattle.messages.specs.Records.{noMessage}
+use Rattle.sites.specs.Sites.{noSite}
 use Rattle.settings.specs.Ranges.{goodShared}
 use Rattle.settings.specs.declared.Shared.{Shared}
 use Rattle.settings.specs.declared.Settings.{Settings}
@@ -18,7 +19,7 @@ good d = goodShared (d .shared) && goodReceive (d .receive) && goodSend (d .send
 -- the device that opening gives: both rings empty, first and pending 0, register empty
 abbrev pub fresh : Settings → Device
 fresh s = record {
-  shared = record { mode = s .mode; format = s .format; align = s .align };
+  shared = record { mode = s .mode; format = s .format; align = s .align; site = s .site };
   receive = record {
     filter = record { active = s .active; code = s .code; mask = s .mask };
     events = s .events;
@@ -41,6 +42,7 @@ noDevice = fresh (record {
   queue = 0;
   tx = 0;
   buffer = 0;
+  site = noSite;
 })
 
 -- the device with other shared settings, another receive channel, another send channel

@@ -55,10 +55,12 @@ fn fresh_send(s: Settings) -> Send
 fn fresh_device(s: Settings) -> Device
     ensures { λ d. ⌜ d ≡ fresh s ⌝ }
 {
+    let site = s.site;
     let shared = Shared {
         mode: s.mode,
         format: s.format,
         align: s.align,
+        site: site,
     };
     let receive = fresh_receive(s);
     let send = fresh_send(s);
@@ -83,6 +85,7 @@ fn no_device() -> Device
         queue: 0,
         tx: 0,
         buffer: 0,
+        site: sites::records::no_site(),
     })
 }
 

@@ -33,5 +33,5 @@ pub decimal-small : (n : ℕ) → n < 10 → decimal n ≡ (48 + n) ∷ []
 decimal-small n h = in-small 19 n h
 
 -- a number from ten on: its tenth, then its last digit
-pub decimal-large : (n : ℕ) → 10 ≤ n → n < 2 ^ 32 → decimal n ≡ decimal (n / 10) ++ (48 + n % 10) ∷ []
+pub decimal-large : (n : ℕ) → 10 ≤ n → n < 2 ^ 64 → decimal n ≡ decimal (n / 10) ++ (48 + n % 10) ∷ []
 decimal-large n l h = in-large 19 n l ∙ ap (λ (x : List ℕ). x ++ (48 + n % 10) ∷ []) (enough 18 (n / 10) (omega arith))

@@ -55,5 +55,5 @@ pub decimal-length-two : (n : ℕ) → n < 100 → length (decimal n) ≤ 2
 decimal-length-two n h = decimal-le 1 n h
 
 -- a number from ten on has one digit more than its tenth
-pub decimal-length-suc : (n : ℕ) → 10 ≤ n → n < 2 ^ 32 → length (decimal n) ≡ length (decimal (n / 10)) + 1
+pub decimal-length-suc : (n : ℕ) → 10 ≤ n → n < 2 ^ 64 → length (decimal n) ≡ length (decimal (n / 10)) + 1
 decimal-length-suc n l h = ap length (decimal-large n l h) ∙ length-append (decimal (n / 10)) ((48 + n % 10) ∷ [])

@@ -51,7 +51,7 @@ text-done {o} {out} {a} text i e f z =
     record { bytes = sym (e ∙ rw (drop-of-length-le text z)); place = rw q }
 
 -- the last digit of a decimal number behind the others
-pub decimal-last : {o m : List ℕ} {a p : ℕ} (n : ℕ) → 10 ≤ n → n < 2 ^ 32 → Put o a (decimal (n / 10)) m p
+pub decimal-last : {o m : List ℕ} {a p : ℕ} (n : ℕ) → 10 ≤ n → n < 2 ^ 64 → Put o a (decimal (n / 10)) m p
     → Put o a (decimal n) (set m p (48 + n % 10)) (p + 1)
 decimal-last {o} {m} {a} {p} n l h s = rw (decimal-large n l h) (then s (one m p (48 + n % 10)))
 

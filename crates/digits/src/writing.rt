@@ -39,7 +39,7 @@ pub fn put_hex(out: &mut [u8], at: usize, n: u32, w: u32) -> usize
 }
 
 // A number in decimal, without leading zeros.
-pub fn put_decimal(out: &mut [u8], at: usize, n: u32) -> usize
+pub fn put_decimal(out: &mut [u8], at: usize, n: u64) -> usize
     requires { ⌜ at + length (decimal n) ≤ length (now out) ⌝ }
     ensures { λ r. ⌜ Put (now (out .entry)) at (decimal n) (now (out .exit)) r ⌝ }
 {
@@ -75,7 +75,7 @@ pub fn put_field(out: &mut [u8], at: usize, separator: u8, n: u32, w: u32) -> us
 }
 
 // A separator and a number in decimal.
-pub fn put_number(out: &mut [u8], at: usize, separator: u8, n: u32) -> usize
+pub fn put_number(out: &mut [u8], at: usize, separator: u8, n: u64) -> usize
     requires { ⌜ at + length (separator ∷ decimal n) ≤ length (now out) ⌝ }
     ensures { λ r. ⌜ Put (now (out .entry)) at (separator ∷ decimal n) (now (out .exit)) r ⌝ }
 {

@@ -61,7 +61,7 @@ pub state-tested : (s : List ℕ) (n : ℕ) → length s ≡ stateSize → n ≡
 unfolding isState
 state-tested s n l e = rw (e, eq-eqb (length s) stateSize l)
 
--- a state is 88 bytes long
+-- a state is so many bytes long
 pub state-long : (s : List ℕ) → isState s ≡ true → length s ≡ stateSize
 unfolding isState
 state-long s h = eqb-true (length s) stateSize (and-left (eqb (length s) stateSize) (leb (word s (sendAt + 16)) 1) h)
@@ -87,12 +87,12 @@ module _ (d : Device) where
       let new = wordBytes (stateNumbers (transferred d s)) in
       let old = d .send .message .bytes in
       let b = s .message .bytes in
-      let n : length (new ++ old) ≡ 88 = length-append new old ∙ rw l in
+      let n : length (new ++ old) ≡ stateSize = length-append new old ∙ rw l in
       let ring = wordBytes (s .ring .first ∷ s .ring .count ∷ []) in
       sets-append (sets (wordBytes (stateNumbers d) ++ old) (sendAt + 8) ring) (sendAt + 16)
       (wordBytes (registerNumbers (s .held) (s .message))) b
-      ∙ sets-eq b (new ++ old) 80 (omega arith)
-      ∙ ap (λ (r : List ℕ). new ++ b ++ r) (drop-of-length-le (new ++ old) {i = 80 + length b} (omega arith))
+      ∙ sets-eq b (new ++ old) 92 (omega arith)
+      ∙ ap (λ (r : List ℕ). new ++ b ++ r) (drop-of-length-le (new ++ old) {i = 92 + length b} (omega arith))
       ∙ append-nil (new ++ b)
 
 -- so are those written over the bytes of a state
@@ -120,5 +120,5 @@ module _ (s : List ℕ) (g : Bytes s) (h : isState s ≡ true) where
       → t2 ≡ stateBytes (transferred (counted (deviceIn s) count pending) x)
   unfolding deviceIn
   transferred-written count pending x e0 e1 e2 m =
-      let l : length (slice 80 88 s) ≡ 8 = length-slice 80 88 s (omega (arith, state-long s h)) in
+      let l : length (slice 92 100 s) ≡ 8 = length-slice 92 100 s (omega (arith, state-long s h)) in
       e2 ∙ rw (e1, counted-written count pending e0) (over-transferred (counted (deviceIn s) count pending) x l m)

@@ -67,13 +67,15 @@ module _ (h : Shared) (r : Receive) (t : List ℕ) where
   raised-raises : (code tick : ℕ) (m : Message) → Raises r (Inbox.raised h r code tick m t)
   unfolding Inbox.raised
   raised-raises code tick m =
-      pick-is (Raises r) (eqb (raiseRefusal h r (length t) code m) 0) (λ a. meets-raises (eventOf code tick m))
+      pick-is (Raises r) (eqb (raiseRefusal h r (length t) code m) 0)
+      (λ a. meets-raises (eventOf (h .site) code tick m))
       (λ a. refl)
 
   carried-raises : (e : Raised) → Raises r (carriedOver e h r t)
   unfolding carriedOver
   carried-raises e =
-      pick-is (Raises r) (eqb (e .code) 0) (λ a. refl) (λ a. meets-raises (eventOf (e .code) (e .tick) (e .message)))
+      pick-is (Raises r) (eqb (e .code) 0) (λ a. refl)
+      (λ a. meets-raises (eventOf (h .site) (e .code) (e .tick) (e .message)))
 
 -- a call on the send channel moves first, count and register
 abbrev Sends : Send → Outbox.Outcome → Type 0

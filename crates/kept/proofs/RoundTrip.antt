@@ -1,8 +1,8 @@
--- A device is kept whole: its 88 bytes stand for it, and a state's bytes are those of the device that they stand for.
-use mathlib.Core.Path.{_≡_, refl, sym, ap, _∙_}
+-- A device is kept whole: its bytes stand for it, and a state's bytes are those of the device that they stand for.
+use mathlib.Core.Path.{_≡_, refl, sym, ap, ap₂, _∙_}
 use mathlib.Core.List.{List, _++_}
 use mathlib.Core.Bool.{Bool, true, false}
-use Prim.Native.Nat.{ℕ, zero, suc, _+_, _*_, _≤_, _<_}
+use Prim.Native.Nat.{ℕ, zero, suc, _+_, _*_, _/_, _%_, _^_, _≤_, _<_}
 use native.Mathlib.Omega.{arith}
 use lib.ListN.{length, getD}
 use lib.Seq.{take-all}
@@ -12,12 +12,21 @@ use Rattle.common.specs.Choice.{pick}
 use Rattle.common.specs.Numbers.{Bytes}
 use Rattle.common.proofs.Bools.{and-left, and-right}
 use Rattle.common.proofs.Lists.{reads-slice, reads-all}
+use Rattle.settings.specs.Given.{joined}
 use Rattle.device.specs.declared.Device.{Device}
 use Rattle.layout.specs.Parts.{wordBytes, word}
-use Rattle.layout.proofs.RoundTrip.{word-words, words-reads}
-use Rattle.kept.specs.State.{sendAt, stateNumbers, stateBytes, deviceIn, isState}
+use Rattle.layout.proofs.RoundTrip.{word-words, word-below, words-reads}
+use Rattle.kept.specs.State.{sendAt, stateSize, stateNumbers, stateBytes, deviceIn, isState}
 
 -- ---- from a device to its bytes and back
+
+-- a number of 64 bits is its two halves
+halves-back : (n : ℕ) → joined (n % 2 ^ 32) (n / 2 ^ 32) ≡ n
+halves-back n = omega arith
+
+-- and two halves are those of their number
+halves-are : (low high : ℕ) → low < 4294967296 → (joined low high % 2 ^ 32 ≡ low) × (joined low high / 2 ^ 32 ≡ high)
+halves-are low high h = (omega arith, omega arith)
 
 held-back : (b : Bool) → eqb (pick b 1 0) 1 ≡ b
 held-back true = refl
@@ -29,30 +38,38 @@ pub device-back : (d : Device) → ((k : ℕ) → getD (stateNumbers d) k 0 < 42
     → deviceIn (stateBytes d) ≡ d
 unfolding deviceIn stateBytes
 device-back d fits long = λ i. record {
-  shared = record { mode = w 0 (omega arith) i; format = w 1 (omega arith) i; align = w 2 (omega arith) i };
+  shared = record {
+    mode = w 0 (omega arith) i;
+    format = w 1 (omega arith) i;
+    align = w 2 (omega arith) i;
+    site = record {
+      offset = w 3 (omega arith) i;
+      second = (ap₂ joined (w 4 (omega arith)) (w 5 (omega arith)) ∙ halves-back (d .shared .site .second)) i;
+    };
+  };
   receive = record {
-    filter = record { active = w 3 (omega arith) i; code = w 4 (omega arith) i; mask = w 5 (omega arith) i };
-    events = w 6 (omega arith) i;
-    ring = record { capacity = w 7 (omega arith) i; first = w 8 (omega arith) i; count = w 9 (omega arith) i };
-    pending = w 10 (omega arith) i;
+    filter = record { active = w 6 (omega arith) i; code = w 7 (omega arith) i; mask = w 8 (omega arith) i };
+    events = w 9 (omega arith) i;
+    ring = record { capacity = w 10 (omega arith) i; first = w 11 (omega arith) i; count = w 12 (omega arith) i };
+    pending = w 13 (omega arith) i;
   };
   send = record {
-    tx = w 11 (omega arith) i;
-    ring = record { capacity = w 12 (omega arith) i; first = w 13 (omega arith) i; count = w 14 (omega arith) i };
-    held = (ap (λ (n : ℕ). eqb n 1) (w 15 (omega arith)) ∙ held-back (d .send .held)) i;
+    tx = w 14 (omega arith) i;
+    ring = record { capacity = w 15 (omega arith) i; first = w 16 (omega arith) i; count = w 17 (omega arith) i };
+    held = (ap (λ (n : ℕ). eqb n 1) (w 18 (omega arith)) ∙ held-back (d .send .held)) i;
     message = record {
       header = record {
-        id = w 16 (omega arith) i;
-        format = w 17 (omega arith) i;
-        rtr = w 18 (omega arith) i;
-        dlc = w 19 (omega arith) i;
+        id = w 19 (omega arith) i;
+        format = w 20 (omega arith) i;
+        rtr = w 21 (omega arith) i;
+        dlc = w 22 (omega arith) i;
       };
       bytes = take-all 8 (d .send .message .bytes) (omega arith) i;
     };
   };
 }
   where
-    w : (k : ℕ) → k < 20 → word (wordBytes (stateNumbers d) ++ d .send .message .bytes) (4 * k)
+    w : (k : ℕ) → k < 23 → word (wordBytes (stateNumbers d) ++ d .send .message .bytes) (4 * k)
         ≡ getD (stateNumbers d) k 0
     w k h = word-words (stateNumbers d) (d .send .message .bytes) k h (fits k)
 
@@ -68,8 +85,9 @@ pub state-back : (b : List ℕ) → Bytes b → isState b ≡ true → stateByte
 unfolding deviceIn stateBytes isState
 state-back b g h =
     let held = word b (sendAt + 16) in
-    let l : length b ≡ 88 = eqb-true (length b) 88 (and-left (eqb (length b) 88) (leb held 1) h) in
-    let m : held ≤ 1 = leb-true held 1 (and-right (eqb (length b) 88) (leb held 1) h) in
-    rw (held-number held m)
-    (λ i. words-reads b 0 20 g (omega arith) i ++ sym (reads-slice b 80 8 (omega arith)) i)
-    ∙ reads-all b 88 l
+    let l : length b ≡ stateSize = eqb-true (length b) stateSize (and-left (eqb (length b) stateSize) (leb held 1) h) in
+    let m : held ≤ 1 = leb-true held 1 (and-right (eqb (length b) stateSize) (leb held 1) h) in
+    let halves = halves-are (word b 16) (word b 20) (word-below b 16 g (omega arith)) in
+    rw (held-number held m, halves .0, halves .1)
+    (λ i. words-reads b 0 23 g (omega arith) i ++ sym (reads-slice b 92 8 (omega arith)) i)
+    ∙ reads-all b stateSize l

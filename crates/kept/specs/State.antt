@@ -1,4 +1,4 @@
--- The device kept in 88 bytes, part by part: what all channels share, the receive channel, the send channel.
+-- The device kept in 100 bytes, part by part: what all channels share, the receive channel, the send channel.
 use Prim.Native.Nat.{ℕ, _+_}
 use mathlib.Core.Bool.{Bool, _&&_}
 use mathlib.Core.List.{List, _++_}
@@ -15,19 +15,19 @@ use Rattle.device.specs.declared.Device.{Device}
 
 -- the bytes of a state, and where its second and third part begin
 abbrev pub stateSize : ℕ
-stateSize = 88
+stateSize = 100
 
 abbrev pub receiveAt : ℕ
-receiveAt = 12
+receiveAt = 24
 
 abbrev pub sendAt : ℕ
-sendAt = 44
+sendAt = 56
 
--- all twenty numbers
+-- all twenty-three numbers
 abbrev pub stateNumbers : Device → List ℕ
 stateNumbers d = sharedNumbers (d .shared) ++ receiveNumbers (d .receive) ++ sendNumbers (d .send)
 
--- a device's 88 bytes: its numbers, then the register's eight data bytes
+-- a device's bytes: its numbers, then the register's eight data bytes
 unfoldable pub stateBytes : Device → List ℕ
 stateBytes d = wordBytes (stateNumbers d) ++ d .send .message .bytes
 
@@ -37,7 +37,7 @@ stateBytes d = wordBytes (stateNumbers d) ++ d .send .message .bytes
 unfoldable pub deviceIn : List ℕ → Device
 deviceIn s = record { shared = sharedIn s 0; receive = receiveIn s receiveAt; send = sendIn s sendAt }
 
--- bytes that are a state: 88 of them, and the register held or not; all else is the recorder's to judge
+-- bytes that are a state: as many, and the register held or not; all else is the recorder's to judge
 unfoldable pub isState : List ℕ → Bool
 isState s = eqb (length s) stateSize && leb (word s (sendAt + 16)) 1
 

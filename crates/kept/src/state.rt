@@ -8,13 +8,13 @@ ghost use lib.ListN.{length};
 ghost use Rattle.kept.specs.State.{stateSize, stateBytes, deviceIn, isState, isPossible};
 
 // The bytes of a state, and where its second and third part begin.
-pub const STATE: usize = 88;
+pub const STATE: usize = 100;
 
-pub const RECEIVE: usize = 12;
+pub const RECEIVE: usize = 24;
 
-pub const SEND: usize = 44;
+pub const SEND: usize = 56;
 
-// The bytes are a state: 88 of them, and the register is held or not.
+// The bytes are a state: as many, and the register is held or not.
 pub fn is_state(s: &[u8]) -> bool
     ensures { λ ok. ⌜ ok ≡ isState (now (s .entry)) ⌝ }
 {

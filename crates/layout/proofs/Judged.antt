@@ -1,56 +1,45 @@
 -- What the tests of a part in place show.
-use mathlib.Core.Path.{_≡_, refl, _∙_}
+use mathlib.Core.Path.{_≡_, sym, _∙_}
 use mathlib.Core.Bool.{Bool, true, false, _&&_}
 use mathlib.Core.List.{List}
-use Prim.Native.Nat.{ℕ, zero, suc, _+_, _≤_, _<_}
+use Prim.Native.Nat.{ℕ, _+_, _≤_, _<_}
 use native.Mathlib.Omega.{arith}
 use lib.Dec.{leb, eqb}
 use borrow.Author.Tests.{eq-eqb, ne-eqb, le-leb, lt-leb}
 use Rattle.common.specs.Choice.{pick}
 use Rattle.common.specs.Rings.{goodRing}
 use Rattle.common.specs.declared.Ring.{Ring}
-use Rattle.filters.specs.Filters.{modeTakes}
 use Rattle.filters.specs.EventMask.{isMask}
 use Rattle.messages.specs.Records.{goodMessage}
 use Rattle.messages.specs.declared.Message.{Message}
+use Rattle.sites.specs.Sites.{goodSite}
 use Rattle.settings.specs.Ranges.{goodShared}
+use Rattle.settings.proofs.Laws.{shared-tests, shared-mode}
 use Rattle.settings.specs.TxMode.{goodTx}
 use Rattle.queue.specs.Channel.{queueLimit, goodReceive}
 use Rattle.buffer.specs.Channel.{sendLimit}
-use Rattle.layout.specs.Parts.{word, sharedIn, receiveIn, registerIn, sendIn}
-
--- a test that holds decides nothing
-and-true : (a : Bool) → (a && true) ≡ a
-and-true true = refl
-and-true false = refl
+use Rattle.layout.specs.Parts.{word, siteFrom, sharedIn, receiveIn, registerIn, sendIn}
 
 -- ---- what all channels share
 
--- the formats of a mode: up to 1 in mode 0, up to 2 in mode 1
-formats : (mode format : ℕ) → mode ≤ 1 → (leb format 2 && modeTakes mode format) ≡ leb format (mode + 1)
-unfolding modeTakes
-formats zero zero h = refl
-formats zero (suc zero) h = refl
-formats zero (suc (suc zero)) h = refl
-formats zero (suc (suc (suc n))) h =
-    rw (lt-leb (suc (suc (suc n))) 2 (omega arith), lt-leb (suc (suc (suc n))) 1 (omega arith))
-formats (suc zero) n h = and-true (leb n 2)
-formats (suc (suc m)) n h = absurd (omega arith)
-
 module _ (s : List ℕ) (at mode : ℕ) (e : mode ≡ word s at) where
   pub mode-out : 1 < mode → false ≡ goodShared (sharedIn s at)
-  unfolding goodShared
-  mode-out h = rw (← e, lt-leb mode 1 h)
+  mode-out h = sym (shared-mode (sharedIn s at) (rw (← e) h))
 
   module _ (m : mode ≤ 1) (format : ℕ) (f : format ≡ word s (at + 4)) where
-    pub format-out : mode + 1 < format → false ≡ goodShared (sharedIn s at)
-    unfolding goodShared
-    format-out h = rw (← e, ← f, le-leb mode 1 m, formats mode format m, lt-leb format (mode + 1) h)
+    tests : goodShared (sharedIn s at)
+        ≡ (leb format (mode + 1) && leb (word s (at + 8)) 3 && goodSite (siteFrom s (at + 12)))
+    tests = rw (e, f) (shared-tests (sharedIn s at) (rw (← e) m))
 
-    pub align-said : (align : ℕ) → align ≡ word s (at + 8) → format ≤ mode + 1
-        → leb align 3 ≡ goodShared (sharedIn s at)
-    unfolding goodShared
-    align-said align a h = rw (← e, ← f, ← a, le-leb mode 1 m, formats mode format m, le-leb format (mode + 1) h)
+    pub format-out : mode + 1 < format → false ≡ goodShared (sharedIn s at)
+    format-out h = rw (tests, lt-leb format (mode + 1) h)
+
+    module _ (align : ℕ) (a : align ≡ word s (at + 8)) (h : format ≤ mode + 1) where
+      pub align-out : 3 < align → false ≡ goodShared (sharedIn s at)
+      align-out g = rw (tests, ← a, le-leb format (mode + 1) h, lt-leb align 3 g)
+
+      pub site-said : {ok : Bool} → align ≤ 3 → ok ≡ goodSite (siteFrom s (at + 12)) → ok ≡ goodShared (sharedIn s at)
+      site-said g ok = ok ∙ rw (tests, ← a, le-leb format (mode + 1) h, le-leb align 3 g)
 
 -- ---- the channels
 

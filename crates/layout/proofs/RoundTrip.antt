@@ -7,7 +7,7 @@ use native.Mathlib.Omega.{arith}
 use lib.ListN.{length, getD}
 use Rattle.common.specs.Numbers.{Bytes, bytesOf}
 use Rattle.common.proofs.Lists.{reads, reads-slice}
-use Rattle.common.proofs.Numbers.{number-back, bytes-back}
+use Rattle.common.proofs.Numbers.{number-back, number-below, bytes-back}
 use Rattle.messages.proofs.RoundTrip.{reads-bytes}
 use Rattle.layout.specs.Parts.{wordBytes, word}
 
@@ -21,6 +21,11 @@ word-words (n ∷ ns) r (suc k) h b =
     let e : 4 * suc k ≡ suc (suc (suc (suc (4 * k)))) = omega arith in
     let f : 4 * suc k + 4 ≡ suc (suc (suc (suc (4 * k + 4)))) = omega arith in
     rw (f, e) (word-words ns r k (le-of-suc-le-suc h) b)
+
+-- a number that bytes stand for has 32 bits
+pub word-below : (b : List ℕ) (at : ℕ) → Bytes b → at + 4 ≤ length b → word b at < 4294967296
+unfolding word
+word-below b at g h = rw (← reads-slice b at 4 h) (number-below (reads b at 4) (reads-bytes b at 4 g))
 
 -- n numbers from number k on
 abbrev pub wordsFrom : List ℕ → ℕ → ℕ → List ℕ

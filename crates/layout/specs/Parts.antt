@@ -1,5 +1,5 @@
 -- The parts of a kept device, each a list of numbers: what all channels share, the receive channel, the send channel.
-use Prim.Native.Nat.{ℕ, _+_}
+use Prim.Native.Nat.{ℕ, _+_, _/_, _%_, _^_}
 use mathlib.Core.Bool.{Bool}
 use mathlib.Core.List.{List, [], _∷_, _++_}
 use lib.Seq.{slice}
@@ -7,15 +7,19 @@ use lib.Dec.{eqb}
 use Rattle.common.specs.Choice.{pick}
 use Rattle.common.specs.Numbers.{bytesOf, numberOf}
 use Rattle.messages.specs.declared.Message.{Message}
+use Rattle.sites.specs.declared.Site.{Site}
+use Rattle.settings.specs.Given.{joined}
 use Rattle.settings.specs.declared.Shared.{Shared}
 use Rattle.queue.specs.declared.Receive.{Receive}
 use Rattle.buffer.specs.declared.Send.{Send}
 
 -- ---- from a part to its bytes
 
--- the numbers of each part, in their order; whether the register holds a message is 1 or 0
+-- the numbers of each part, in their order; the site's second is two, its low 32 bits and its high ones; whether the
+-- register holds a message is 1 or 0
 abbrev pub sharedNumbers : Shared → List ℕ
-sharedNumbers h = h .mode ∷ h .format ∷ h .align ∷ []
+sharedNumbers h =
+    h .mode ∷ h .format ∷ h .align ∷ h .site .offset ∷ h .site .second % 2 ^ 32 ∷ h .site .second / 2 ^ 32 ∷ []
 
 abbrev pub receiveNumbers : Receive → List ℕ
 receiveNumbers r =
@@ -44,8 +48,12 @@ unfoldable pub word : List ℕ → ℕ → ℕ
 word s at = numberOf (slice at (at + 4) s)
 
 -- each part, from `at` on
+abbrev pub siteFrom : List ℕ → ℕ → Site
+siteFrom s at = record { offset = word s at; second = joined (word s (at + 4)) (word s (at + 8)) }
+
 abbrev pub sharedIn : List ℕ → ℕ → Shared
-sharedIn s at = record { mode = word s at; format = word s (at + 4); align = word s (at + 8) }
+sharedIn s at =
+    record { mode = word s at; format = word s (at + 4); align = word s (at + 8); site = siteFrom s (at + 12) }
 
 abbrev pub receiveIn : List ℕ → ℕ → Receive
 receiveIn s at = record {

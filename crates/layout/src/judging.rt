@@ -36,7 +36,7 @@ fn is_ring(s: &[u8], at: usize, limit: u32) -> bool
 
 // What all channels share is in its ranges.
 pub fn is_shared(s: &[u8], at: usize) -> bool
-    requires { ⌜ at + 12 ≤ length (now s) ⌝ }
+    requires { ⌜ at + 24 ≤ length (now s) ⌝ }
     ensures { λ ok. ⌜ ok ≡ goodShared (sharedIn (now (s .entry)) at) ⌝ }
 {
     let mode = words::word(s, at);
@@ -46,7 +46,10 @@ pub fn is_shared(s: &[u8], at: usize) -> bool
     if mode + 1 < words::word(s, at + 4) {
         return false;
     }
-    words::word(s, at + 8) <= 3
+    if 3 < words::word(s, at + 8) {
+        return false;
+    }
+    sites::ranges::is_site(parts::site_from(s, at + 12))
 }
 
 // The receive channel is possible.

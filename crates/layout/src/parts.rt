@@ -7,22 +7,37 @@ use ids::Header;
 use messages::Message;
 use queue::Receive;
 use settings::Shared;
+use sites::Site;
 ghost use mathlib.Core.Path.{_≡_};
 ghost use mathlib.Core.List.{_++_};
 ghost use Prim.Native.Nat.{_+_, _≤_};
 ghost use lib.ListN.{length};
 ghost use lib.Seq.{sets, slice};
 ghost use Rattle.layout.specs.Parts.{sharedNumbers, receiveNumbers, sendNumbers, registerBytes, wordBytes};
-ghost use Rattle.layout.specs.Parts.{sharedIn, receiveIn, registerIn, sendIn};
+ghost use Rattle.layout.specs.Parts.{siteFrom, sharedIn, receiveIn, registerIn, sendIn};
+
+// The site: its offset, and its second in two halves.
+pub fn site_from(s: &[u8], at: usize) -> Site
+    requires { ⌜ at + 12 ≤ length (now s) ⌝ }
+    ensures { λ r. ⌜ r ≡ siteFrom (now (s .entry)) at ⌝ }
+{
+    let second = settings::given::joined(words::word(s, at + 4), words::word(s, at + 8));
+    Site {
+        offset: words::word(s, at),
+        second: second,
+    }
+}
 
 pub fn shared_in(s: &[u8], at: usize) -> Shared
-    requires { ⌜ at + 12 ≤ length (now s) ⌝ }
+    requires { ⌜ at + 24 ≤ length (now s) ⌝ }
     ensures { λ r. ⌜ r ≡ sharedIn (now (s .entry)) at ⌝ }
 {
+    let site = site_from(s, at + 12);
     Shared {
         mode: words::word(s, at),
         format: words::word(s, at + 4),
         align: words::word(s, at + 8),
+        site: site,
     }
 }
 
@@ -98,11 +113,17 @@ pub fn send_in(s: &[u8], at: usize) -> Send
 }
 
 pub fn write_shared(s: &mut [u8], at: usize, h: Shared)
-    requires { ⌜ at + 12 ≤ length (now s) ⌝ }
+    requires { ⌜ at + 24 ≤ length (now s) ⌝ }
     ensures { λ _. ⌜ now (s .exit) ≡ sets (now (s .entry)) at (wordBytes (sharedNumbers h)) ⌝ }
 {
-    words::write_two(s, at, h.mode, h.format);
-    words::write_word(s, at + 8, h.align);
+    let site = h.site;
+    words::write_four(s, at, h.mode, h.format, h.align, site.offset);
+    words::write_two(
+        s,
+        at + 16,
+        words::low_half(site.second),
+        words::high_half(site.second),
+    );
 }
 
 pub fn write_receive(s: &mut [u8], at: usize, r: Receive)

@@ -1,7 +1,7 @@
 // Numbers in lent bytes, each in four, lowest first.
 ghost use mathlib.Core.Path.{_≡_};
 ghost use mathlib.Core.List.{_∷_, []};
-ghost use Prim.Native.Nat.{_+_, _≤_};
+ghost use Prim.Native.Nat.{_+_, _/_, _%_, _^_, _≤_};
 ghost use lib.ListN.{length};
 ghost use lib.Seq.{sets};
 ghost use Rattle.common.specs.Numbers.{bytesOf};
@@ -27,6 +27,20 @@ pub fn write_word(s: &mut [u8], at: usize, n: u32)
     s[at + 1] = (n1 % 256) as u8;
     s[at + 2] = (n2 % 256) as u8;
     s[at + 3] = (n3 % 256) as u8;
+}
+
+// The low 32 bits of a number of 64.
+pub fn low_half(n: u64) -> u32
+    ensures { λ r. ⌜ r ≡ n % 2 ^ 32 ⌝ }
+{
+    (n % 4294967296) as u32
+}
+
+// And the high ones.
+pub fn high_half(n: u64) -> u32
+    ensures { λ r. ⌜ r ≡ n / 2 ^ 32 ⌝ }
+{
+    (n / 4294967296) as u32
 }
 
 // Writes two numbers.

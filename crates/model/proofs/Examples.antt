@@ -11,6 +11,7 @@ use Rattle.events.specs.Records.{holdsFrame, kindOf, stamped}
 use Rattle.messages.specs.Records.{noMessage, stored}
 use Rattle.events.specs.Raised.{eventOf, filtered}
 use Rattle.messages.specs.declared.Message.{Message}
+use Rattle.sites.specs.Sites.{noSite, goodOffset, goodSite}
 use Rattle.settings.specs.Binary.{binaryRefusal}
 use Rattle.settings.specs.Ranges.{formatOf}
 use Rattle.settings.specs.TxMode.{raisesAtTake, raisesAtDone}
@@ -18,7 +19,8 @@ use Rattle.settings.specs.declared.Settings.{Settings}
 use Rattle.model.specs.Said.{Said}
 use Rattle.model.specs.Inbox.{Kept, keeps, readRecord, receives, arrival}
 use Rattle.model.specs.Outbox.{took, purged, SendCall, send, take, done, abort, posts}
-use Rattle.model.specs.Box.{Box, fresh, raise, does, onDevice, onReceive, onSend, step, Asked, run, answers}
+use Rattle.model.specs.Box.{Box, fresh, raise, setSite, does, onDevice, onReceive, onSend, step, Asked, run}
+use Rattle.model.specs.Box.{answers}
 use Rattle.model.specs.Promised.{recorded}
 
 -- a box with so many event places and a TxMode: no filter, every code let through, room for three messages
@@ -34,6 +36,7 @@ opened places tx = record {
   queue = places;
   tx = tx;
   buffer = 3;
+  site = noSite;
 }
 
 -- ---- the queue: events of code 9
@@ -42,7 +45,7 @@ opened places tx = record {
 abbrev event : ℕ → Asked
 event tick = record { call = onDevice (raise 9 tick noMessage); room = 0 }
 
--- a read as its 32 bytes
+-- a read as its bytes
 abbrev reads : Asked
 reads = record { call = onReceive readRecord; room = 0 }
 
@@ -52,7 +55,7 @@ lossy = event 1 ∷ event 2 ∷ event 3 ∷ reads ∷ event 4 ∷ []
 
 -- one place: A with no event lost before it, D with two
 pub loses-two : recorded (run 0 lossy (fresh (opened 1 1)) .inbox)
-    ≡ keeps 0 (stamped (eventOf 9 1 noMessage) 0) ∷ keeps 4 (stamped (eventOf 9 4 noMessage) 2) ∷ []
+    ≡ keeps 0 (stamped (eventOf noSite 9 1 noMessage) 0) ∷ keeps 4 (stamped (eventOf noSite 9 4 noMessage) 2) ∷ []
 unfolding run step does arrival filtered receives eventOf holdsFrame maskLets maskBit
 loses-two = refl
 
@@ -73,6 +76,20 @@ one-place = refl
 pub two-places : ticks 2 drained ≡ 1 ∷ 2 ∷ 3 ∷ 5 ∷ []
 unfolding run step does arrival filtered receives eventOf holdsFrame maskLets maskBit
 two-places = refl
+
+-- a site with this offset, and second 7
+abbrev placed : ℕ → Asked
+placed offset = record { call = onDevice (setSite (record { offset = offset; second = 7 })); room = 0 }
+
+-- raise 1, an hour east, raise 2, 841 minutes (refused), raise 3, 90 minutes west, read
+abbrev moving : List Asked
+moving = event 1 ∷ placed 60 ∷ event 2 ∷ placed 841 ∷ event 3 ∷ placed 4294967206 ∷ reads ∷ []
+
+-- each event has the site that was set last before it, the read one too
+pub each-its-site : map (λ (k : Kept). k .event .site .offset) (recorded (run 0 moving (fresh (opened 9 1)) .inbox))
+    ≡ 0 ∷ 60 ∷ 60 ∷ []
+unfolding run step does arrival filtered receives eventOf holdsFrame maskLets maskBit goodSite goodOffset
+each-its-site = refl
 
 -- ---- the register: three messages are sent; take, done, take, abort
 
@@ -100,13 +117,14 @@ Goes tx events =
 
 -- TxMode 3: each take raises code 2, the abort code 3
 pub at-take : Goes 3
-    (keeps 3 (eventOf 2 10 (message 1)) ∷ keeps 5 (eventOf 2 12 (message 2)) ∷ keeps 6 (eventOf 3 13 (message 2)) ∷ [])
+    (keeps 3 (eventOf noSite 2 10 (message 1)) ∷ keeps 5 (eventOf noSite 2 12 (message 2))
+    ∷ keeps 6 (eventOf noSite 3 13 (message 2)) ∷ [])
 unfolding run answers step posts arrival filtered eventOf holdsFrame kindOf maskLets maskBit binaryRefusal
     formatOf isFormat modeTakes rawOf idLow idBits stored carried raisesAtTake raisesAtDone
 at-take = (refl, refl, refl)
 
 -- TxMode 7: the done raises code 2, the abort code 3
-pub at-done : Goes 7 (keeps 4 (eventOf 2 11 (message 1)) ∷ keeps 6 (eventOf 3 13 (message 2)) ∷ [])
+pub at-done : Goes 7 (keeps 4 (eventOf noSite 2 11 (message 1)) ∷ keeps 6 (eventOf noSite 3 13 (message 2)) ∷ [])
 unfolding run answers step posts arrival filtered eventOf holdsFrame kindOf maskLets maskBit binaryRefusal
     formatOf isFormat modeTakes rawOf idLow idBits stored carried raisesAtTake raisesAtDone
 at-done = (refl, refl, refl)

@@ -108,4 +108,4 @@ raise-told i room code tick m b =
     (frame-number Neither code m (refl, refl) (refl, refl) (refl, refl) (refl, refl) (refl, refl)))
   where
     e : Event
-    e = eventOf code tick m
+    e = eventOf (b .shared .site) code tick m

@@ -18,6 +18,7 @@ use Rattle.messages.specs.Records.{noMessage}
 use Rattle.events.specs.Raised.{filtered, frameRefusal, eventOf}
 use Rattle.events.specs.declared.Event.{Event}
 use Rattle.event_text.specs.Lines.{eventRoom}
+use Rattle.sites.specs.Sites.{goodSite}
 use Rattle.settings.specs.Ranges.{goodShared}
 use Rattle.settings.specs.declared.Shared.{Shared}
 use Rattle.settings.specs.declared.Settings.{Settings}
@@ -26,8 +27,8 @@ use Rattle.model.specs.Inbox.{Kept, Inbox, recording, losing, Met, meets
 use Rattle.model.specs.Inbox.{readRecord, readText, look, setFilter, setEventMask, identifiersThrough, Received}
 use Rattle.model.specs.Inbox.{takesOldest, receives}
 use Rattle.model.specs.Outbox.{Outbox, posts}
-use Rattle.model.specs.Box.{Box, box, fresh, Step, DeviceCall, raise, setMode, setFormat, noted, changes, does}
-use Rattle.model.specs.Box.{Call, onDevice, onReceive, onSend, onAlign, step, Asked, run}
+use Rattle.model.specs.Box.{Box, box, fresh, Step, DeviceCall, raise, setMode, setFormat, setSite, noted}
+use Rattle.model.specs.Box.{changes, does, Call, onDevice, onReceive, onSend, onAlign, step, Asked, run}
 use Rattle.model.specs.Promised.{recorded, apart, Within, withPlaces}
 use Rattle.model.proofs.Choices.{both, alongside}
 use Rattle.model.proofs.Recorded.{recorded-more, recorded-same, queue-more}
@@ -171,16 +172,17 @@ module _ (i : ℕ) (s : Shared) (o : Outbox) (a b : Inbox) (f : Freer a b) where
   changes-alike : (t : Shared) (tick : ℕ) → AlikeAfter (changes t tick i (box s a o)) (changes t tick i (box s b o))
   changes-alike t tick =
       both AlikeAfter (goodShared t)
-      (alike t o _ _ (freer-arrival i (eventOf 5 tick noMessage) a b f t)) (alike s o a b f)
+      (alike t o _ _ (freer-arrival i (eventOf (t .site) 5 tick noMessage) a b f t)) (alike s o a b f)
 
   -- the same call on the device
   does-alike : (x : DeviceCall) → AlikeAfter (does i x (box s a o)) (does i x (box s b o))
   unfolding does
   does-alike (raise code tick m) =
       both AlikeAfter (eqb (frameRefusal code m) 0)
-      (alike s o _ _ (freer-arrival i (eventOf code tick m) a b f s)) (alike s o a b f)
+      (alike s o _ _ (freer-arrival i (eventOf (s .site) code tick m) a b f s)) (alike s o a b f)
   does-alike (setMode mode tick) = changes-alike _ tick
   does-alike (setFormat format tick) = changes-alike _ tick
+  does-alike (setSite site) = both AlikeAfter (goodSite site) (alike _ o a b f) (alike s o a b f)
 
   -- the same call
   step-same : (room : ℕ) (x : Call) → AlikeAfter (step i room x (box s a o)) (step i room x (box s b o))

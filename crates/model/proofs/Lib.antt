@@ -11,4 +11,5 @@ pub mod Usual
 pub mod Order
 pub mod Mail
 pub mod Gaps
+pub mod Sites
 pub mod Examples

@@ -6,6 +6,7 @@ use mathlib.Core.Option.{Option, none, some, Option·none-ne-some}
 use native.Mathlib.Omega.{arith}
 use lib.ListN.{length}
 use Rattle.messages.specs.declared.Message.{Message}
+use Rattle.sites.specs.declared.Site.{Site}
 use Rattle.settings.specs.declared.Shared.{Shared}
 use Rattle.settings.specs.declared.Settings.{Settings}
 use Rattle.model.specs.Outbox.{Gone, took, purged, Outbox, take, takes, takesInto, posts}
@@ -28,8 +29,8 @@ last-took last (took n ∷ gs) m = last-took (some n) gs m
 last-took last (purged n ∷ gs) m = last-took last gs m
 
 -- every way that a call on a send channel can go
-mailed-posts : (o : Outbox) → Mailed o → Ways o (λ p. Mailed (p .outbox))
-mailed-posts o p = record {
+mailed-posts : (site : Site) (o : Outbox) → Mailed o → Ways site o (λ p. Mailed (p .outbox))
+mailed-posts site o p = record {
   kept = λ a. p;
   put-in = λ a m z room. record {
     in-order = rw (p .in-order, append-assoc (map messageOf (o .gone)) (o .buffer) (m ∷ []));
@@ -69,8 +70,8 @@ abbrev Fits : ℕ → Outbox → Type 0
 Fits n o = (o .places ≡ n) × (length (o .buffer) ≤ n)
 
 -- every way that a call on a send channel can go
-fits-posts : (n : ℕ) (o : Outbox) → Fits n o → Ways o (λ p. Fits n (p .outbox))
-fits-posts n o p = record {
+fits-posts : (n : ℕ) (site : Site) (o : Outbox) → Fits n o → Ways site o (λ p. Fits n (p .outbox))
+fits-posts n site o p = record {
   kept = λ a. p;
   put-in = λ a m z room. (p .0, let q = p .0 in omega (arith, one-more m (o .buffer)));
   taken = λ tick m rest e g. (p .0, let q = p .1 in omega (arith, ap length g));
@@ -85,23 +86,23 @@ buffer-bounded s xs = sends-run (Fits (s .buffer)) (fits-posts (s .buffer)) 0 xs
 -- ---- a take
 
 -- from an empty register
-oldest-moves : (tick : ℕ) (o : Outbox) (ms : List Message) → o .register ≡ none → o .buffer ≡ ms
-    → takes tick ms o .said .number ≡ 0 → TakeMoves o (takes tick ms o)
-oldest-moves tick o [] e g z = absurd (omega arith)
-oldest-moves tick o (m ∷ rest) e g z =
+oldest-moves : (site : Site) (tick : ℕ) (o : Outbox) (ms : List Message) → o .register ≡ none → o .buffer ≡ ms
+    → takes site tick ms o .said .number ≡ 0 → TakeMoves o (takes site tick ms o)
+oldest-moves site tick o [] e g z = absurd (omega arith)
+oldest-moves site tick o (m ∷ rest) e g z =
     record { message = m; was-empty = e; was-oldest = g; holds = refl; bytes = refl }
 
 -- from any register
-register-moves : (tick : ℕ) (o : Outbox) (register : Option Message) → o .register ≡ register
-    → takesInto register tick o .said .number ≡ 0 → TakeMoves o (takesInto register tick o)
-register-moves tick o none e z = oldest-moves tick o (o .buffer) e refl z
-register-moves tick o (some m) e z = absurd (omega arith)
+register-moves : (site : Site) (tick : ℕ) (o : Outbox) (register : Option Message) → o .register ≡ register
+    → takesInto register site tick o .said .number ≡ 0 → TakeMoves o (takesInto register site tick o)
+register-moves site tick o none e z = oldest-moves site tick o (o .buffer) e refl z
+register-moves site tick o (some m) e z = absurd (omega arith)
 
 -- THEOREM. A take that answers 0 has moved the oldest message to the register, which was empty, and answers its bytes
 pub take-moves : (tick : ℕ) (s : Shared) (o : Outbox) → posts (take tick) s o .said .number ≡ 0
     → TakeMoves o (posts (take tick) s o)
 unfolding posts
-take-moves tick s o z = register-moves tick o (o .register) refl z
+take-moves tick s o z = register-moves (s .site) tick o (o .register) refl z
 
 -- THEOREM. With an empty register, a take answers 0 where a message waits
 pub take-answers : (tick : ℕ) (s : Shared) (o : Outbox) (m : Message) (rest : List Message) → o .register ≡ none

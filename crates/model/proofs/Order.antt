@@ -11,7 +11,7 @@ use Rattle.settings.specs.declared.Settings.{Settings}
 use Rattle.model.specs.Inbox.{Kept, keeps, Inbox}
 use Rattle.model.specs.Box.{Box, fresh, Call, step, Asked, run}
 use Rattle.model.specs.Promised.{recorded, apart, RecordedInOrder, AtMostOne, same, one, Rising}
-use Rattle.model.proofs.Lasting.{step-turns, Lasting, run-keeps}
+use Rattle.model.proofs.Lasting.{step-any, Lasting, run-keeps}
 use Rattle.model.proofs.Recorded.{recorded-more, recorded-same, queue-more}
 
 -- ---- what is recorded is, in order, among what arrived
@@ -59,11 +59,11 @@ queue-bounded s xs = run-keeps (Fits (s .queue)) (fits-lasts (s .queue)) 0 xs (f
 pub one-event : (i room : ℕ) (x : Call) (b : Box)
     → AtMostOne (b .inbox .arrived) (step i room x b .after .inbox .arrived) i
 one-event i room x b =
-    step-turns i b (λ c. AtMostOne (b .inbox .arrived) (c .arrived) i)
+    step-any i b (λ c. AtMostOne (b .inbox .arrived) (c .arrived) i)
     (record {
       kept = same refl;
-      recorded = λ e room. one e refl;
-      lost = λ e full. one e refl;
+      recorded = λ e any room. one e refl;
+      lost = λ e any full. one e refl;
       read = λ k rest q. same refl;
       filter = λ code mask. same refl;
       mask = λ mask. same refl;

@@ -16,26 +16,28 @@ use Rattle.message_text.specs.declared.Answer.{Answer}
 use Rattle.message_text.specs.declared.Answer.the-variants.{Taken, Refused}
 use Rattle.settings.specs.Ranges.{goodShared, formatOf}
 use Rattle.settings.specs.Binary.{binaryRefusal, sentMessage}
+use Rattle.sites.specs.Sites.{goodSite}
+use Rattle.sites.specs.declared.Site.{Site}
 use Rattle.settings.specs.declared.Shared.{Shared}
 use Rattle.model.specs.Said.{Said, says, saysZeros, counts}
 use Rattle.model.specs.Outbox.{purged, Outbox, holding, SendCall, send, sendText, take, done, abort, Posted}
 use Rattle.model.specs.Outbox.{posted, put, textSays, putText, takes, takesInto, finishes, aborts, posts}
-use Rattle.model.specs.Box.{Box, Step, DeviceCall, raise, setMode, setFormat, does, Call, onDevice, onReceive}
-use Rattle.model.specs.Box.{onSend, onAlign, step, Asked, run}
+use Rattle.model.specs.Box.{Box, Step, DeviceCall, raise, setMode, setFormat, setSite, does, Call, onDevice}
+use Rattle.model.specs.Box.{onReceive, onSend, onAlign, step, Asked, run}
 
--- Q holds of each way that a call on channel o can go
-pub record Ways (o : Outbox) (Q : Posted → Type 0) : Type 0 where
+-- Q holds of each way that a call on channel o can go, at a site
+pub record Ways (site : Site) (o : Outbox) (Q : Posted → Type 0) : Type 0 where
   pub kept : (a : Said) → Q (posted a o none)
   pub put-in : (a : Said) (m : Message) → a .number ≡ 0 → length (o .buffer) < o .places
       → Q (posted a (holding o (o .buffer ++ m ∷ []) (o .register) (o .sent ++ m ∷ []) (o .gone)) none)
   pub taken : (tick : ℕ) (m : Message) (rest : List Message) → o .register ≡ none → o .buffer ≡ m ∷ rest
-      → Q (takes tick (m ∷ rest) o)
-  pub finished : (tick : ℕ) (m : Message) → o .register ≡ some m → Q (finishes (some m) tick o)
+      → Q (takes site tick (m ∷ rest) o)
+  pub finished : (tick : ℕ) (m : Message) → o .register ≡ some m → Q (finishes (some m) site tick o)
   pub aborted : (tick : ℕ)
       → Q (posted (counts (length (o .buffer))) (holding o [] none (o .sent) (o .gone ++ map purged (o .buffer)))
-      (aborts (o .register) tick))
+      (aborts (o .register) site tick))
 
-module _ (o : Outbox) (Q : Posted → Type 0) (w : Ways o Q) where
+module _ (s : Shared) (o : Outbox) (Q : Posted → Type 0) (w : Ways (s .site) o Q) where
   -- a message is put in where there is a place
   put-is : (a : Said) (m : Message) → a .number ≡ 0 → Q (put a m o)
   put-is a m z =
@@ -47,32 +49,32 @@ module _ (o : Outbox) (Q : Posted → Type 0) (w : Ways o Q) where
   text-is (Refused number used) bytes = w .kept _
 
   -- the oldest is taken, if there is one
-  oldest-is : (tick : ℕ) (ms : List Message) → o .register ≡ none → o .buffer ≡ ms → Q (takes tick ms o)
+  oldest-is : (tick : ℕ) (ms : List Message) → o .register ≡ none → o .buffer ≡ ms → Q (takes (s .site) tick ms o)
   oldest-is tick [] e g = w .kept (saysZeros messageSize 4)
   oldest-is tick (m ∷ rest) e g = w .taken tick m rest e g
 
   -- take
-  take-is : (tick : ℕ) (register : Option Message) → o .register ≡ register → Q (takesInto register tick o)
+  take-is : (tick : ℕ) (register : Option Message) → o .register ≡ register → Q (takesInto register (s .site) tick o)
   take-is tick none e = oldest-is tick (o .buffer) e refl
   take-is tick (some m) e = w .kept (saysZeros messageSize 5)
 
   -- done
-  done-is : (tick : ℕ) (register : Option Message) → o .register ≡ register → Q (finishes register tick o)
+  done-is : (tick : ℕ) (register : Option Message) → o .register ≡ register → Q (finishes register (s .site) tick o)
   done-is tick none e = w .kept (says 4)
   done-is tick (some m) e = w .finished tick m e
 
   -- what holds of each way holds of every call
-  pub posts-is : (x : SendCall) (s : Shared) → Q (posts x s o)
+  pub posts-is : (x : SendCall) → Q (posts x s o)
   unfolding posts
-  posts-is (send m) s =
+  posts-is (send m) =
       pick-is Q (eqb (binaryRefusal s m) 0)
       (λ h. put-is (says 0) (sentMessage s m) refl) (λ h. w .kept (says (binaryRefusal s m)))
-  posts-is (sendText text) s =
+  posts-is (sendText text) =
       let r : TextSaid = readMessage (s .align) (formatOf s (s .format)) text in
       text-is (r .answer) (r .bytes)
-  posts-is (take tick) s = take-is tick (o .register) refl
-  posts-is (done tick) s = done-is tick (o .register) refl
-  posts-is (abort tick) s = w .aborted tick
+  posts-is (take tick) = take-is tick (o .register) refl
+  posts-is (done tick) = done-is tick (o .register) refl
+  posts-is (abort tick) = w .aborted tick
 
 -- ---- what every way leaves true, every call and every sequence of calls leaves true
 
@@ -88,14 +90,16 @@ does-outbox i x b = by x
     by (raise code tick m) = pick-is Same (eqb (frameRefusal code m) 0) (λ h. refl) (λ h. refl)
     by (setMode mode tick) = pick-is Same (goodShared _) (λ h. refl) (λ h. refl)
     by (setFormat format tick) = pick-is Same (goodShared _) (λ h. refl) (λ h. refl)
+    by (setSite site) = pick-is Same (goodSite site) (λ h. refl) (λ h. refl)
 
-module _ (P : Outbox → Type 0) (w : (o : Outbox) → P o → Ways o (λ p. P (p .outbox))) where
+module _ (P : Outbox → Type 0) (w : (site : Site) (o : Outbox) → P o → Ways site o (λ p. P (p .outbox))) where
   -- every call
   pub sends-keep : (i room : ℕ) (x : Call) (b : Box) → P (b .outbox) → P (step i room x b .after .outbox)
   unfolding step
   sends-keep i room (onDevice x) b p = rw (does-outbox i x b) p
   sends-keep i room (onReceive x) b p = p
-  sends-keep i room (onSend x) b p = posts-is (b .outbox) (λ q. P (q .outbox)) (w (b .outbox) p) x (b .shared)
+  sends-keep i room (onSend x) b p =
+      posts-is (b .shared) (b .outbox) (λ q. P (q .outbox)) (w (b .shared .site) (b .outbox) p) x
   sends-keep i room (onAlign x) b p = p
 
   -- every sequence of calls

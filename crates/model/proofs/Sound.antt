@@ -1,20 +1,19 @@
 -- Every call at once: its number is one of its usual ones, and a refusal leaves the box and stands beside zeros.
-use Prim.Native.Nat.{ℕ, zero, suc, _≤_}
+use Prim.Native.Nat.{ℕ, zero, suc}
 use mathlib.Core.Path.{_≡_, refl, sym, _∙_}
-use mathlib.Core.Bool.{true, false, not, _&&_}
+use mathlib.Core.Bool.{true, false, not}
 use mathlib.Core.List.{List, [], _∷_}
 use mathlib.Core.Option.{Option, none, some}
 use lib.ListN.{length}
 use lib.Dec.{ltb, leb, eqb}
-use borrow.Author.Tests.{leb-true, not-true}
+use borrow.Author.Tests.{not-true}
 use Rattle.common.specs.Choice.{pick}
 use Rattle.common.specs.Numbers.{among, allZero}
 use Rattle.common.specs.Refusals.{isRefusal}
-use Rattle.common.proofs.Bools.{apart, and-right}
+use Rattle.common.proofs.Bools.{apart}
 use Rattle.common.proofs.Choices.{pick-is}
 use Rattle.ids.specs.Ids.{isFormat}
 use Rattle.ids.specs.Frames.{headerRefusal}
-use Rattle.filters.specs.Filters.{modeTakes}
 use Rattle.filters.specs.EventMask.{isMask}
 use Rattle.messages.specs.Records.{isMessage, messageIn}
 use Rattle.events.specs.Records.{isEvent, eventIn}
@@ -25,7 +24,9 @@ use Rattle.message_text.specs.Reading.{usedOf, refused}
 use Rattle.message_text.specs.Printing.{messageRoom, messageLine, messageRefusal, messageRecordRefusal}
 use Rattle.message_text.proofs.Cases.{read-is}
 use Rattle.event_text.specs.Lines.{eventRoom, eventLine, eventRecordRefusal}
+use Rattle.sites.specs.Sites.{goodSite}
 use Rattle.settings.specs.Ranges.{goodShared}
+use Rattle.settings.proofs.Laws.{good-align}
 use Rattle.settings.specs.Binary.{binaryRefusal}
 use Rattle.settings.specs.declared.Shared.{Shared}
 use Rattle.model.specs.Said.{Said, says}
@@ -33,9 +34,9 @@ use Rattle.model.specs.Inbox.{Kept, ReceiveCall, readRecord, readText, l
 use Rattle.model.specs.Inbox.{identifiersThrough, Received, takesOldest, looksAt, receives}
 use Rattle.model.specs.Outbox.{SendCall, send, sendText, take, done, abort, Posted, posted, put, putText, takes}
 use Rattle.model.specs.Outbox.{takesInto, finishes, posts}
-use Rattle.model.specs.Box.{Box, box, Step, steps, DeviceCall, raise, setMode, setFormat, noted, changes, does}
-use Rattle.model.specs.Box.{PrintCall, printMessageRecord, printEventRecord, printMessage, lineSaid, shows}
-use Rattle.model.specs.Box.{Call, onDevice, onReceive, onSend, onAlign, step}
+use Rattle.model.specs.Box.{Box, box, Step, steps, DeviceCall, raise, setMode, setFormat, setSite, noted}
+use Rattle.model.specs.Box.{changes, does, PrintCall, printMessageRecord, printEventRecord, printMessage}
+use Rattle.model.specs.Box.{lineSaid, shows, Call, onDevice, onReceive, onSend, onAlign, step}
 use Rattle.model.specs.Listed.{usual, beside, Untouched}
 use Rattle.model.proofs.Choices.{either}
 use Rattle.model.proofs.Lasting.{arrival-is}
@@ -46,13 +47,6 @@ use Rattle.model.proofs.Numbers.{each-is}
 pub record Sound (ns : List ℕ) (value : ℕ → ℕ) (b : Box) (r : Step) : Type 0 where
   pub number-in : goodShared (b .shared) ≡ true → among (r .said .number) ns ≡ true
   pub untouched : isRefusal (r .said .number) ≡ true → Untouched b (value (r .said .number)) r
-
--- the Align of good settings
-pub good-align : (s : Shared) → goodShared s ≡ true → s .align ≤ 3
-unfolding goodShared
-good-align s h =
-    let others = leb (s .mode) 1 && leb (s .format) 2 && modeTakes (s .mode) (s .format) in
-    leb-true _ _ (and-right others (leb (s .align) 3) h)
 
 module _ {ns : List ℕ} {value : ℕ → ℕ} {b : Box} where
   -- a step that is no refusal
@@ -101,6 +95,9 @@ module _ (i room : ℕ) (b : Box) where
           (λ z. absurd (apart z)) (λ z. refl) (λ z. refl) (λ z. refl) (λ z. refl)
   does-sound (setMode mode tick) = changes-sound _ tick
   does-sound (setFormat format tick) = changes-sound _ tick
+  does-sound (setSite site) =
+      either (SoundCall (onDevice (setSite site))) (goodSite site) (succeeds refl refl)
+      (stays (λ g. refl) refl refl refl)
 
   -- ---- the calls on the receive channel
 
@@ -158,19 +155,21 @@ module _ (i room : ℕ) (b : Box) where
       either (SoundPosted x) (ltb (length (b .outbox .buffer)) (b .outbox .places)) (succeeds (rw z) (rw z h)) five
 
   -- the oldest is taken, if there is one
-  takes-sound : (tick : ℕ) (ms : List Message) → SoundPosted (take tick) (takes tick ms (b .outbox))
+  takes-sound : (tick : ℕ) (ms : List Message) → SoundPosted (take tick) (takes (b .shared .site) tick ms (b .outbox))
   unfolding usual beside isRefusal
   takes-sound tick [] = stays (λ g. refl) refl refl refl
   takes-sound tick (m ∷ ms) = succeeds refl refl
 
   -- take
-  take-sound : (tick : ℕ) (register : Option Message) → SoundPosted (take tick) (takesInto register tick (b .outbox))
+  take-sound : (tick : ℕ) (register : Option Message)
+      → SoundPosted (take tick) (takesInto register (b .shared .site) tick (b .outbox))
   unfolding usual beside
   take-sound tick none = takes-sound tick (b .outbox .buffer)
   take-sound tick (some m) = stays (λ g. refl) refl refl refl
 
   -- done
-  done-sound : (tick : ℕ) (register : Option Message) → SoundPosted (done tick) (finishes register tick (b .outbox))
+  done-sound : (tick : ℕ) (register : Option Message)
+      → SoundPosted (done tick) (finishes register (b .shared .site) tick (b .outbox))
   unfolding usual beside isRefusal
   done-sound tick none = stays (λ g. refl) refl refl refl
   done-sound tick (some m) = succeeds refl refl

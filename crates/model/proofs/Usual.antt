@@ -7,10 +7,12 @@ use lib.Dec.{eqb}
 use Rattle.common.specs.Numbers.{among}
 use Rattle.common.proofs.Choices.{pick-is}
 use Rattle.events.specs.Raised.{frameRefusal}
+use Rattle.sites.specs.Sites.{goodSite}
 use Rattle.settings.specs.Ranges.{goodShared}
+use Rattle.settings.proofs.Laws.{site-set-good}
 use Rattle.settings.specs.declared.Shared.{Shared}
-use Rattle.model.specs.Box.{Box, Step, DeviceCall, raise, setMode, setFormat, changes, does, Call, onDevice}
-use Rattle.model.specs.Box.{onReceive, onSend, onAlign, step, Asked, run}
+use Rattle.model.specs.Box.{Box, Step, DeviceCall, raise, setMode, setFormat, setSite, changes, does, Call}
+use Rattle.model.specs.Box.{onDevice, onReceive, onSend, onAlign, step, Asked, run}
 use Rattle.model.specs.Listed.{usual}
 use Rattle.model.proofs.Sound.{step-sound}
 
@@ -35,6 +37,7 @@ unfolding does
 does-shared i (raise code tick m) b g = pick-is Good (eqb (frameRefusal code m) 0) (λ h. g) (λ h. g)
 does-shared i (setMode mode tick) b g = changes-shared _ tick i b g
 does-shared i (setFormat format tick) b g = changes-shared _ tick i b g
+does-shared i (setSite site) b g = pick-is Good (goodSite site) (λ h. site-set-good (b .shared) g site h) (λ h. g)
 
 -- every call
 pub step-shared : (i room : ℕ) (x : Call) (b : Box) → goodShared (b .shared) ≡ true → Good (step i room x b)

@@ -14,7 +14,9 @@ use Rattle.messages.specs.declared.Message.{Message}
 use Rattle.events.specs.declared.Event.{Event}
 use Rattle.message_text.specs.Printing.{messageLine, messageRefusal, messageRecordRefusal}
 use Rattle.event_text.specs.Lines.{eventLine, eventRecordRefusal}
-use Rattle.settings.specs.Ranges.{goodShared, withMode, withFormat}
+use Rattle.sites.specs.Sites.{goodSite}
+use Rattle.sites.specs.declared.Site.{Site}
+use Rattle.settings.specs.Ranges.{goodShared, withMode, withFormat, withSite}
 use Rattle.settings.specs.declared.Shared.{Shared}
 use Rattle.settings.specs.declared.Settings.{Settings}
 use Rattle.model.specs.Said.{Said, says, prints}
@@ -32,7 +34,7 @@ box s i o = record { shared = s; inbox = i; outbox = o }
 -- a fresh box
 abbrev pub fresh : Settings → Box
 fresh s = record {
-  shared = record { mode = s .mode; format = s .format; align = s .align };
+  shared = record { mode = s .mode; format = s .format; align = s .align; site = s .site };
   inbox = record {
     filter = record { active = s .active; code = s .code; mask = s .mask };
     mask = s .events;
@@ -59,6 +61,7 @@ pub data DeviceCall : Type 0 where
   raise : (code tick : ℕ) → Message → DeviceCall
   setMode : (mode tick : ℕ) → DeviceCall
   setFormat : (format tick : ℕ) → DeviceCall
+  setSite : (site : Site) → DeviceCall
 
 -- the event that call i raises beside its answer, if any, arrives in the queue
 abbrev pub noted : Shared → ℕ → Option Event → Inbox → Inbox
@@ -69,19 +72,22 @@ noted s i (some e) b = arrival s i e b .inbox
 abbrev pub changes : Shared → ℕ → ℕ → Box → Step
 changes s tick i b =
     pick (goodShared s)
-    (steps (says 0) (box s (noted s i (some (eventOf 5 tick noMessage)) (b .inbox)) (b .outbox)))
+    (steps (says 0) (box s (noted s i (some (eventOf (s .site) 5 tick noMessage)) (b .inbox)) (b .outbox)))
     (steps (says 1) b)
 
 -- call i, on the device
 unfoldable pub does : ℕ → DeviceCall → Box → Step
 -- 13, 8, 9, 10, then what the event meets
 does i (raise code tick m) b =
-    let r : Met = arrival (b .shared) i (eventOf code tick m) (b .inbox) in
+    let r : Met = arrival (b .shared) i (eventOf (b .shared .site) code tick m) (b .inbox) in
     pick (eqb (frameRefusal code m) 0)
     (steps (says (r .number)) (box (b .shared) (r .inbox) (b .outbox)))
     (steps (says (frameRefusal code m)) b)
 does i (setMode mode tick) b = changes (withMode (b .shared) mode) tick i b
 does i (setFormat format tick) b = changes (withFormat (b .shared) format) tick i b
+-- 1; later events carry the new site, and nothing is raised
+does i (setSite site) b =
+    pick (goodSite site) (steps (says 0) (box (withSite (b .shared) site) (b .inbox) (b .outbox))) (steps (says 1) b)
 
 -- ---- the calls that print under the Align
 

@@ -11,7 +11,7 @@ use Rattle.message_text.specs.Reading.{usedOf}
 use Rattle.model.specs.Inbox.{ReceiveCall, readRecord, readText, look}
 use Rattle.model.specs.Inbox.{setFilter, setEventMask, identifiersThrough}
 use Rattle.model.specs.Outbox.{SendCall, send, sendText, take, done, abort}
-use Rattle.model.specs.Box.{DeviceCall, raise, setMode, setFormat}
+use Rattle.model.specs.Box.{DeviceCall, raise, setMode, setFormat, setSite}
 use Rattle.model.specs.Box.{PrintCall, printMessageRecord, printEventRecord, printMessage}
 use Rattle.model.specs.Box.{Box, Step, Call, onDevice, onReceive, onSend, onAlign}
 
@@ -19,6 +19,7 @@ abbrev pub listedDevice : DeviceCall → List ℕ
 listedDevice (raise code tick m) = 2 ∷ 13 ∷ 8 ∷ 9 ∷ 10 ∷ 100 ∷ 101 ∷ 102 ∷ 103 ∷ []
 listedDevice (setMode mode tick) = 2 ∷ 1 ∷ 0 ∷ []
 listedDevice (setFormat format tick) = 2 ∷ 1 ∷ 0 ∷ []
+listedDevice (setSite site) = 2 ∷ 1 ∷ 0 ∷ []
 
 abbrev pub listedReceive : ReceiveCall → List ℕ
 listedReceive readRecord = 2 ∷ 4 ∷ 14 ∷ 0 ∷ []

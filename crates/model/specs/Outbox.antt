@@ -18,6 +18,7 @@ use Rattle.message_text.specs.declared.Answer.the-variants.{Taken, Refused}
 use Rattle.settings.specs.Ranges.{formatOf}
 use Rattle.settings.specs.TxMode.{raisesAtTake, raisesAtDone}
 use Rattle.settings.specs.Binary.{binaryRefusal, sentMessage}
+use Rattle.sites.specs.declared.Site.{Site}
 use Rattle.settings.specs.declared.Shared.{Shared}
 use Rattle.model.specs.Said.{Said, says, saysZeros, counts, hands}
 
@@ -77,31 +78,31 @@ putText r o = by (r .answer)
     by (Refused number used) = posted (textSays (Refused number used)) o none
 
 -- an event with a message's frame, raised where a test holds
-abbrev pub raisedIf : ℕ → ℕ → Message → Bool → Option Event
-raisedIf code tick m test = pick test (some (eventOf code tick m)) none
+abbrev pub raisedIf : Site → ℕ → ℕ → Message → Bool → Option Event
+raisedIf site code tick m test = pick test (some (eventOf site code tick m)) none
 
 -- the oldest of the messages goes to the empty register: 4 where none waits
-abbrev pub takes : ℕ → List Message → Outbox → Posted
-takes tick [] o = posted (saysZeros messageSize 4) o none
-takes tick (m ∷ rest) o =
+abbrev pub takes : Site → ℕ → List Message → Outbox → Posted
+takes site tick [] o = posted (saysZeros messageSize 4) o none
+takes site tick (m ∷ rest) o =
     posted (hands (messageBytes m)) (holding o rest (some m) (o .sent) (o .gone ++ took m ∷ []))
-    (raisedIf 2 tick m (raisesAtTake (o .tx)))
+    (raisedIf site 2 tick m (raisesAtTake (o .tx)))
 
 -- take: 5 where the register is occupied
-abbrev pub takesInto : (register : Option Message) → ℕ → Outbox → Posted
-takesInto none tick o = takes tick (o .buffer) o
-takesInto (some m) tick o = posted (saysZeros messageSize 5) o none
+abbrev pub takesInto : (register : Option Message) → Site → ℕ → Outbox → Posted
+takesInto none site tick o = takes site tick (o .buffer) o
+takesInto (some m) site tick o = posted (saysZeros messageSize 5) o none
 
 -- done empties the register: 4 where it is empty
-abbrev pub finishes : (register : Option Message) → ℕ → Outbox → Posted
-finishes none tick o = posted (says 4) o none
-finishes (some m) tick o =
-    posted (says 0) (holding o (o .buffer) none (o .sent) (o .gone)) (raisedIf 2 tick m (raisesAtDone (o .tx)))
+abbrev pub finishes : (register : Option Message) → Site → ℕ → Outbox → Posted
+finishes none site tick o = posted (says 4) o none
+finishes (some m) site tick o =
+    posted (says 0) (holding o (o .buffer) none (o .sent) (o .gone)) (raisedIf site 2 tick m (raisesAtDone (o .tx)))
 
 -- abort raises code 3 if the register held a message
-abbrev pub aborts : (register : Option Message) → ℕ → Option Event
-aborts none tick = none
-aborts (some m) tick = some (eventOf 3 tick m)
+abbrev pub aborts : (register : Option Message) → Site → ℕ → Option Event
+aborts none site tick = none
+aborts (some m) site tick = some (eventOf site 3 tick m)
 
 unfoldable pub posts : SendCall → Shared → Outbox → Posted
 -- 13, 8, 9, 10, 5
@@ -110,10 +111,10 @@ posts (send m) s o =
 -- 6, 7, 8, 9, 10, 7, 11, 12, 5
 posts (sendText text) s o = putText (readMessage (s .align) (formatOf s (s .format)) text) o
 -- 5, 4
-posts (take tick) s o = takesInto (o .register) tick o
+posts (take tick) s o = takesInto (o .register) (s .site) tick o
 -- 4
-posts (done tick) s o = finishes (o .register) tick o
+posts (done tick) s o = finishes (o .register) (s .site) tick o
 -- the register is emptied and the buffer purged; the answer is how many were purged
 posts (abort tick) s o =
     posted (counts (length (o .buffer))) (holding o [] none (o .sent) (o .gone ++ map purged (o .buffer)))
-    (aborts (o .register) tick)
+    (aborts (o .register) (s .site) tick)

@@ -1,20 +1,25 @@
 -- What is promised of a box after any calls.
-use Prim.Native.Nat.{ℕ, _+_, _≤_, min}
+use Prim.Native.Nat.{ℕ, zero, suc, _+_, _≤_, min}
 use mathlib.Core.Path.{_≡_}
 use mathlib.Core.Bool.{_||_}
 use mathlib.Core.List.{List, [], _∷_, _++_, map}
 use mathlib.Core.Option.{Option, none, some}
 use lib.ListN.{length}
 use lib.Dec.{eqb}
+use Rattle.common.specs.All.{All}
 use Rattle.common.specs.Choice.{pick}
 use Rattle.common.specs.Sublist.{Sublist}
 use Rattle.messages.specs.Records.{messageBytes}
 use Rattle.events.specs.Records.{stamped}
 use Rattle.events.specs.declared.Event.{Event}
 use Rattle.messages.specs.declared.Message.{Message}
+use Rattle.sites.specs.Sites.{goodSite}
+use Rattle.sites.specs.declared.Site.{Site}
 use Rattle.settings.specs.declared.Settings.{Settings}
 use Rattle.model.specs.Inbox.{Kept, keeps, Inbox}
 use Rattle.model.specs.Outbox.{Gone, took, purged, Outbox, Posted}
+use Rattle.model.specs.Box.{DeviceCall, raise, setMode, setFormat, setSite, Call, onDevice, onReceive, onSend}
+use Rattle.model.specs.Box.{onAlign, Asked}
 
 -- recorded: read, or still queued
 abbrev pub recorded : Inbox → List Kept
@@ -53,6 +58,36 @@ pub record RaiseTold (n : ℕ) (b c : Inbox) : Type 0 where
   pub recorded-is : length (recorded c) ≡ length (recorded b) + pick (eqb n 100) 1 0
   pub arrived-is : length (c .arrived) ≡ length (b .arrived) + pick (eqb n 100 || eqb n 103) 1 0
 
+-- ---- the site of every event
+
+-- the site after a call on the device: a set_site in range sets it
+abbrev pub setsSite : DeviceCall → Site → Site
+setsSite (raise code tick m) site = site
+setsSite (setMode mode tick) site = site
+setsSite (setFormat format tick) site = site
+setsSite (setSite new) site = pick (goodSite new) new site
+
+-- and after any call
+abbrev pub siteAfter : Call → Site → Site
+siteAfter (onDevice x) site = setsSite x site
+siteAfter (onReceive x) site = site
+siteAfter (onSend x) site = site
+siteAfter (onAlign x) site = site
+
+-- the site that was set last before call i, `site` being the one that opening was given
+abbrev pub siteBefore : ℕ → List Asked → Site → Site
+siteBefore zero xs site = site
+siteBefore (suc i) [] site = site
+siteBefore (suc i) (x ∷ xs) site = siteBefore i xs (siteAfter (x .call) site)
+
+-- an event carries the site that was set last before the call that raised it
+abbrev pub Carries : List Asked → Site → Kept → Type 0
+Carries xs site k = k .event .site ≡ siteBefore (k .place) xs site
+
+-- so does every event that has arrived, and every event recorded
+abbrev pub SitesCarried : List Asked → Site → Inbox → Type 0
+SitesCarried xs site b = All (Carries xs site) (b .arrived) × All (Carries xs site) (recorded b)
+
 -- ---- the larger queue
 
 -- an event apart from its lost count
@@ -76,6 +111,7 @@ withPlaces s c = record {
   queue = c;
   tx = s .tx;
   buffer = s .buffer;
+  site = s .site;
 }
 
 -- ---- the order of what went by

@@ -14,6 +14,7 @@ use Rattle.events.specs.Records.{eventSize, codeOf, eventBytes}
 use Rattle.events.specs.Raised.{frameRefusal, eventOf, filtered}
 use Rattle.events.specs.declared.Event.{Event}
 use Rattle.event_text.specs.Lines.{eventRoom, eventLine}
+use Rattle.sites.specs.Sites.{goodSite}
 use Rattle.settings.specs.Ranges.{goodShared}
 use Rattle.settings.specs.declared.Settings.{Settings}
 use Rattle.settings.specs.declared.Shared.{Shared}
@@ -26,7 +27,7 @@ use Rattle.model.specs.Inbox.{Kept, Inbox, Met, arrival, ReceiveCall, readRecor
 use Rattle.model.specs.Inbox.{setEventMask, identifiersThrough, withFilter, withMask, Received, received, takesOldest}
 use Rattle.model.specs.Inbox.{receives}
 use Rattle.model.specs.Outbox.{posts}
-use Rattle.model.specs.Box.{Box, box, Step, DeviceCall, raise, setMode, setFormat, noted, does, Call, onDevice}
+use Rattle.model.specs.Box.{Box, box, Step, DeviceCall, raise, setMode, setFormat, setSite, noted, does, Call, onDevice}
 use Rattle.model.specs.Box.{onReceive, onSend, onAlign, step, fresh}
 use Rattle.model.specs.Box as Model
 use Rattle.promises.specs.Typed.{Typed, Made, asked, TypedSettings}
@@ -82,13 +83,15 @@ does-read : (i : ℕ) (x : DeviceCall) (b : Box) → does i x b .after .inbox .r
 unfolding does
 does-read i (raise code tick m) b =
     pick-is (λ (s : Step). s .after .inbox .read ≡ b .inbox .read) (eqb (frameRefusal code m) 0)
-    (λ z. arrival-read (b .shared) i (eventOf code tick m) (b .inbox)) (λ z. refl)
+    (λ z. arrival-read (b .shared) i (eventOf (b .shared .site) code tick m) (b .inbox)) (λ z. refl)
 does-read i (setMode mode tick) b =
     pick-is (λ (s : Step). s .after .inbox .read ≡ b .inbox .read) (goodShared _)
-    (λ z. arrival-read _ i (eventOf 5 tick noMessage) (b .inbox)) (λ z. refl)
+    (λ z. arrival-read _ i (eventOf _ 5 tick noMessage) (b .inbox)) (λ z. refl)
 does-read i (setFormat format tick) b =
     pick-is (λ (s : Step). s .after .inbox .read ≡ b .inbox .read) (goodShared _)
-    (λ z. arrival-read _ i (eventOf 5 tick noMessage) (b .inbox)) (λ z. refl)
+    (λ z. arrival-read _ i (eventOf _ 5 tick noMessage) (b .inbox)) (λ z. refl)
+does-read i (setSite site) b =
+    pick-is (λ (s : Step). s .after .inbox .read ≡ b .inbox .read) (goodSite site) (λ z. refl) (λ z. refl)
 
 module _ (r : Run) (o : Outcome) (out : List ℕ) (b : Inbox)
     (h : Holds keptBytes eventSize queueLimit (r .device .receive .ring) (r .queue) (b .queue)) where

@@ -5,6 +5,7 @@ use mathlib.Core.Bool.{true}
 use mathlib.Core.List.{List, [], _∷_, _++_, map, map-append}
 use native.Mathlib.Omega.{arith}
 use lib.ListN.{length, length-map, take, drop}
+use Rattle.common.specs.All.{All}
 use Rattle.common.specs.Numbers.{among}
 use Rattle.common.specs.Sublist.{Sublist}
 use Rattle.common.proofs.Sublists.{sublist-map}
@@ -28,7 +29,7 @@ use Rattle.model.proofs.Usual.{says-usual}
 use Rattle.model.proofs.Mail.{mailed}
 use Rattle.promises.specs.Typed.{Word, Made, asked, TypedSettings}
 use Rattle.promises.specs.Runs.{Run, queuedEvents, waiting, recordedBytes, answered, run, started}
-use Rattle.promises.specs.Stands.{All, keptBytes, RunStands}
+use Rattle.promises.specs.Stands.{keptBytes, RunStands}
 use Rattle.promises.specs.Promised.{lostBytes, Entry, entries}
 use Rattle.promises.proofs.Answers.{says-model, answers, waiting-bytes}
 use Rattle.promises.proofs.Holding.{all-snoc}

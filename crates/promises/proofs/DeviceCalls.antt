@@ -12,7 +12,10 @@ use Rattle.messages.specs.Records.{noMessage}
 use Rattle.events.specs.Records.{holdsFrame}
 use Rattle.events.specs.Raised.{eventOf, frameRefusal}
 use Rattle.messages.specs.declared.Message.{Message}
-use Rattle.settings.specs.Ranges.{goodShared, withMode, withFormat}
+use Rattle.sites.specs.Sites.{goodSite}
+use Rattle.sites.specs.declared.Site.{Site}
+use Rattle.settings.proofs.Laws.{site-in-range, site-set-good}
+use Rattle.settings.specs.Ranges.{goodShared, withMode, withFormat, withSite}
 use Rattle.settings.specs.declared.Shared.{Shared}
 use Rattle.queue.specs.Channel.{queueFits}
 use Rattle.inbox.specs.Refusals.{ready, raiseRefusal}
@@ -21,13 +24,13 @@ use Rattle.buffer.specs.Channel.{goodSend}
 use Rattle.device.specs.State.{good, withShared}
 use Rattle.device.specs.Outcomes.{Lent, lends, ends}
 use Rattle.recorder.specs.Receiving.{raised}
-use Rattle.recorder.specs.Changes.{changed}
+use Rattle.recorder.specs.Changes.{changed, siteSet}
 use Rattle.recorder.specs.Printing.{linePrinted}
 use Rattle.device.specs.declared.Device.{Device}
 use Rattle.model.specs.Said.{says}
 use Rattle.model.specs.Inbox.{Inbox}
 use Rattle.model.specs.Outbox.{Outbox}
-use Rattle.model.specs.Box.{box, steps, DeviceCall, raise, setMode, setFormat, changes, does, PrintCall}
+use Rattle.model.specs.Box.{box, steps, DeviceCall, raise, setMode, setFormat, setSite, changes, does, PrintCall}
 use Rattle.model.specs.Box.{printMessageRecord, printEventRecord, printMessage, lineSaid, shows, Call, onDevice}
 use Rattle.model.specs.Box.{onAlign, step}
 use Rattle.promises.specs.Typed.{Word, TypedDevice}
@@ -64,8 +67,10 @@ module _ (d : Device) (q t out : List ℕ) (i : ℕ) (b : Inbox) (o : Outbox) (h
       rw (sends, prepared)
       (by-test (eqb (frameRefusal code m) 0)
       (λ z. rw z (
-      let s = event-sound tick m (ty .1) (ty .2 .eight) code (ty .0) (eqb-true (frameRefusal code m) 0 z) in
-      let e = arrival-is (d .receive) q b (h .inbox) (d .shared) i (eventOf code tick m) s in (
+      let g = site-in-range (d .shared) (h .possible) in
+      let f = eqb-true (frameRefusal code m) 0 z in
+      let s = event-sound (d .shared .site) tick m g (ty .1) (ty .2 .eight) code (ty .0) f in
+      let e = arrival-is (d .receive) q b (h .inbox) (d .shared) i (eventOf (d .shared .site) code tick m) s in (
         record { number = e .0; value = refl; bytes = refl; line = refl },
         record { possible = h .possible; shared = refl; inbox = e .1; outbox = h .outbox },
       )))
@@ -79,9 +84,26 @@ module _ (d : Device) (q t out : List ℕ) (i : ℕ) (b : Inbox) (o : Outbox) (h
       rw (possible, long)
       (agree-ways (goodShared s) out
       (λ z.
-      notes (eventOf 5 tick noMessage) i (ends 0 0 [] (withShared d s) l) out (says 0) (box s b o)
-      (event-sound tick noMessage ty refl 5 (omega arith) (unfold holdsFrame in refl))
+      notes (eventOf (s .site) 5 tick noMessage) i (ends 0 0 [] (withShared d s) l) out (says 0) (box s b o)
+      (event-sound (s .site) tick noMessage (site-in-range s z) ty refl 5 (omega arith) (unfold holdsFrame in refl))
       (told (says 0) (withShared d s) q t out, record { possible = z; shared = refl; inbox = h .inbox; outbox = h .outbox }))
+      (λ z. (told (says 1) d q t out, h)))
+
+  -- another site: nothing is raised
+  site-is : (site : Site) → Doing (onDevice (setSite site))
+  unfolding outcome siteSet step does
+  site-is site =
+      rw possible
+      (agree-ways (goodSite site) out
+      (λ z. (
+        told (says 0) (withShared d (withSite (d .shared) site)) q t out,
+        record {
+          possible = site-set-good (d .shared) (h .possible) site z;
+          shared = refl;
+          inbox = h .inbox;
+          outbox = h .outbox;
+        },
+      ))
       (λ z. (told (says 1) d q t out, h)))
 
   -- every call on the device
@@ -92,6 +114,7 @@ module _ (d : Device) (q t out : List ℕ) (i : ℕ) (b : Inbox) (o : Outbox) (h
       change-is (withMode (d .shared) mode) tick (ty .1)
   device-agrees (setFormat format tick) ty =
       change-is (withFormat (d .shared) format) tick (ty .1)
+  device-agrees (setSite site) ty = site-is site
 
   -- a line, or its refusal
   print-is : (n : ℕ) (line : List ℕ)

@@ -39,13 +39,15 @@ use Rattle.message_text.specs.Reading.{usedOf}
 use Rattle.message_text.proofs.Cases.{read-is}
 use Rattle.event_text.specs.Lines.{eventRoom, eventLine, eventRecordRefusal}
 use Rattle.device.specs.State.{good, fresh, noDevice, withShared, withReceive}
+use Rattle.sites.specs.Sites.{goodSite}
+use Rattle.sites.specs.declared.Site.{Site}
 use Rattle.settings.specs.Ranges.{goodShared, formatOf}
 use Rattle.settings.specs.Binary.{binaryRefusal}
 use Rattle.device.specs.Outcomes.{Lent, Outcome, ends, refuses}
 use Rattle.recorder.specs.Outcomes.{queueReady, noted, withQueue}
 use Rattle.common.specs.Refusals.{isRefusal}
 use Rattle.device.specs.Opening.{opened}
-use Rattle.recorder.specs.Changes.{changed, filterSet, eventMaskSet}
+use Rattle.recorder.specs.Changes.{changed, siteSet, filterSet, eventMaskSet}
 use Rattle.recorder.specs.Receiving.{raised, recordRead, textRead, lookSaid, through}
 use Rattle.recorder.specs.Receiving as Received
 use Rattle.recorder.specs.Sending.{lifted, sent, textSent}
@@ -58,8 +60,8 @@ use Rattle.recorder.proofs.Ready.{align-in}
 use Rattle.recorder.proofs.ReceiveWays.{good-is, not-good}
 use Rattle.model.specs.Inbox.{readRecord, readText, look, setFilter, setEventMask, identifiersThrough}
 use Rattle.model.specs.Outbox.{send, sendText, take, done, abort}
-use Rattle.model.specs.Box.{raise, setMode, setFormat, printMessageRecord, printEventRecord, printMessage, Call}
-use Rattle.model.specs.Box.{onDevice, onReceive, onSend, onAlign}
+use Rattle.model.specs.Box.{raise, setMode, setFormat, setSite, printMessageRecord, printEventRecord, printMessage}
+use Rattle.model.specs.Box.{Call, onDevice, onReceive, onSend, onAlign}
 use Rattle.model.specs.Listed.{listedDevice, listedReceive, listedSend, listedPrint, listed, besideSend, beside}
 use Rattle.model.proofs.Numbers.{header-number, binary-number, Other, room-align, each, each-is}
 use Rattle.promises.specs.Calls.{receiveOutcome, outcome, Harmless, CallHarmless}
@@ -125,7 +127,7 @@ raised-met : (h : Shared) (r : Receive) (code tick : ℕ) (m : Message) (t : Lis
     → Met r t (Queue.raised h r code tick m t)
 unfolding Queue.raised meets unfiltered queued isRefusal
 raised-met h r code tick m t =
-    let e = eventOf code tick m in
+    let e = eventOf (h .site) code tick m in
     pick-is (Met r t) (eqb (raiseRefusal h r (length t) code m) 0)
     (λ z. both (Met r t) (filtered (h .mode) (h .align) (r .filter) e) _ _ (kept 101 refl)
     (both (Met r t) (maskLets (r .events) (codeOf (e .kind))) _ _
@@ -188,8 +190,9 @@ module _ (d : Device) (l : Lent) where
       let own = oldestRefusal (d .receive) (l .queue) in
       receive-fine ns (textRefusal (d .shared) (d .receive) (l .queue) (length (l .out)))
       (Queue.printsOldest (d .receive) line) refl
-      (both (Other ns) (ready (d .shared) (d .receive) (length (l .queue))) (pick (ltb (length (l .out)) 80) 3 own) 2
-      (both (Other ns) (ltb (length (l .out)) 80) 3 own (λ e. refl) (oldest-number ns refl refl)) (λ e. refl))
+      (both (Other ns) (ready (d .shared) (d .receive) (length (l .queue)))
+      (pick (ltb (length (l .out)) eventRoom) 3 own) 2
+      (both (Other ns) (ltb (length (l .out)) eventRoom) 3 own (λ e. refl) (oldest-number ns refl refl)) (λ e. refl))
       (succeeds ns d l _ _ _ _ refl)
 
   record-fine : H (listedReceive readRecord) d l (recordRead d l)
@@ -209,8 +212,16 @@ module _ (d : Device) (l : Lent) where
   changed-fine s tick =
       let ns : List ℕ = 2 ∷ 1 ∷ 0 ∷ [] in
       both (H ns d l) (queueReady d l) _ _
-      (both (H ns d l) (goodShared s) _ _ (succeeds-noted ns d l (eventOf 5 tick noMessage) 0 [] (withShared d s) l
-      refl) (refused ns d l 1 refl))
+      (both (H ns d l) (goodShared s) _ _
+      (succeeds-noted ns d l (eventOf (s .site) 5 tick noMessage) 0 [] (withShared d s) l refl) (refused ns d l 1 refl))
+      (refused ns d l 2 refl)
+
+  site-fine : (site : Site) → H (2 ∷ 1 ∷ 0 ∷ []) d l (siteSet site d l)
+  unfolding siteSet
+  site-fine site =
+      let ns : List ℕ = 2 ∷ 1 ∷ 0 ∷ [] in
+      both (H ns d l) (good d) _ _
+      (both (H ns d l) (goodSite site) _ _ (succeeds ns d l 0 [] _ l refl) (refused ns d l 1 refl))
       (refused ns d l 2 refl)
 
   filter-fine : (code mask : ℕ) → H (listedReceive (setFilter code mask)) d l (filterSet code mask d l)
@@ -436,6 +447,7 @@ unfolding outcome listed beside
 harmless (onDevice (raise code tick m)) d l = raise-fine d l code tick m
 harmless (onDevice (setMode mode tick)) d l = changed-fine d l _ tick
 harmless (onDevice (setFormat format tick)) d l = changed-fine d l _ tick
+harmless (onDevice (setSite site)) d l = site-fine d l site
 harmless (onReceive readRecord) d l = record-fine d l
 harmless (onReceive readText) d l = text-fine d l
 harmless (onReceive (look p)) d l = look-fine d l p

@@ -10,6 +10,7 @@ use lib.ListN.{length, length-map, drop}
 use lib.Dec.{ltb}
 use lib.Dec as Dec
 use borrow.Author.Tests.{ltb-true, leb-true, lt-ltb, le-ltb}
+use Rattle.common.specs.All.{All}
 use Rattle.common.specs.Choice.{pick}
 use Rattle.common.specs.Rings.{slotOf, withOneMore, withoutOldest, purged}
 use Rattle.common.specs.Slots.{slot, store, ring}
@@ -18,7 +19,7 @@ use Rattle.common.proofs.RingFacts.{RingFacts, good-ring}
 use Rattle.common.proofs.Slots.{ring-length}
 use Rattle.model.specs.Said.{says, hands}
 use Rattle.model.specs.Inbox.{Kept, looksAt}
-use Rattle.promises.specs.Stands.{All, Holds, keptBytes}
+use Rattle.promises.specs.Stands.{Holds, keptBytes}
 use Rattle.promises.proofs.Rings.{facts-good, facts-more, facts-rest, held-more, more-length, held-rest}
 
 -- what holds of every entry and of one more

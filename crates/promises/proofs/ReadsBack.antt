@@ -6,6 +6,7 @@ use mathlib.Core.List.{List, [], _∷_, _++_, map}
 use lib.ListN.{length, take, drop}
 use lib.Seq.{take-at}
 use borrow.Author.Tests.{le-ltb, le-leb, leb-true, lt-ltb}
+use Rattle.common.specs.All.{All}
 use Rattle.common.specs.Numbers.{Bytes}
 use Rattle.common.specs.Rings.{goodRing, slotOf, withOneMore}
 use Rattle.common.specs.Slots.{store}
@@ -41,7 +42,7 @@ use Rattle.model.specs.Box as Model
 use Rattle.promises.specs.Typed.{Made, asked, TypedSettings}
 use Rattle.promises.specs.Calls.{outcome}
 use Rattle.promises.specs.Runs.{Run, lent, run, started}
-use Rattle.promises.specs.Stands.{All, SoundMessage}
+use Rattle.promises.specs.Stands.{SoundMessage}
 use Rattle.promises.specs.Promised.{ReadsBack}
 use Rattle.promises.proofs.Rings.{held-more}
 use Rattle.promises.proofs.Sound.{message-is}

@@ -18,6 +18,8 @@ use Rattle.messages.proofs.RoundTrip.{message-bytes-length}
 use Rattle.message_text.specs.Reading.{usedOf, readMessage}
 use Rattle.message_text.proofs.Cases.{read-is}
 use Rattle.message_text.proofs.Taken.{taken-good}
+use Rattle.sites.specs.Sites.{goodSite}
+use Rattle.settings.proofs.Laws.{site-in-range}
 use Rattle.settings.specs.Ranges.{formatOf}
 use Rattle.settings.specs.TxMode.{raisesAtTake, raisesAtDone}
 use Rattle.settings.specs.Binary.{binaryRefusal, sentMessage}
@@ -216,6 +218,9 @@ module _ (d : Device) (q t out : List ℕ) (i : ℕ) (b : Inbox) (o : Outbox) (h
   unfolding Wire.aborted abortRefusal
   aborted-0 tick = rw able
 
+  site-good : goodSite (d .shared .site) ≡ true
+  site-good = site-in-range (d .shared) (h .possible)
+
   -- a take
   take-is : (tick : ℕ) → Word tick → Doing (take tick)
   unfolding outcome taken carriedOver step posts
@@ -224,18 +229,19 @@ module _ (d : Device) (q t out : List ℕ) (i : ℕ) (b : Inbox) (o : Outbox) (h
       Result : Posted → Type 0
       Result p = Agrees (carrying (After tick) d l) out (Mailed d i b p)
 
-      waits : (ms : List Message) → d .send .held ≡ false → o .buffer ≡ ms → Result (takes tick ms o)
+      waits : (ms : List Message) → d .send .held ≡ false → o .buffer ≡ ms → Result (takes (d .shared .site) tick ms o)
       waits [] z e = rw (taken-4 tick z e) (told (saysZeros messageSize 4) d q t out, h)
       waits (m ∷ rest) z e =
           agrees-as
           (ap (λ (w : Wire.Outcome). carrying w d l) (taken-0 m rest e tick z)
           ∙ carries-as (raisesAtTake (d .send .tx)) 2 tick m refl 0 0 (messageBytes m) (afterTake (d .send) m) t d l)
-          (notes-if (raisesAtTake (d .send .tx)) (raisesAtTake (o .tx)) (rw (h .outbox .tx)) (eventOf 2 tick m) i _
-          out (hands (messageBytes m)) _
-          (message-event-sound tick m ty (first m rest e) 2 (omega arith))
+          (notes-if (raisesAtTake (d .send .tx)) (raisesAtTake (o .tx)) (rw (h .outbox .tx))
+          (eventOf (d .shared .site) 2 tick m) i _ out (hands (messageBytes m)) _
+          (message-event-sound (d .shared .site) tick m site-good ty (first m rest e) 2 (omega arith))
           (told _ _ _ _ _, with-send _ t _ (after-take m rest e)))
 
-      by : (r : Option Message) → Register (d .send .held) (d .send .message) r → Result (takesInto r tick o)
+      by : (r : Option Message) → Register (d .send .held) (d .send .message) r
+          → Result (takesInto r (d .shared .site) tick o)
       by none z = waits (o .buffer) (z .0) refl
       by (some m) r = rw (taken-5 tick (r .0)) (told (saysZeros messageSize 5) d q t out, h)
 
@@ -256,15 +262,16 @@ module _ (d : Device) (q t out : List ℕ) (i : ℕ) (b : Inbox) (o : Outbox) (h
       }
 
       by : (r : Option Message) → Register (d .send .held) (d .send .message) r
-          → Agrees (carrying (Wire.finished (d .shared) (d .send) tick t) d l) out (Mailed d i b (finishes r tick o))
+          → Agrees (carrying (Wire.finished (d .shared) (d .send) tick t) d l) out
+          (Mailed d i b (finishes r (d .shared .site) tick o))
       by none z = rw (finished-4 tick (z .0)) (told (says 4) d q t out, h)
       by (some m) r =
           agrees-as
           (ap (λ (w : Wire.Outcome). carrying w d l) (finished-0 tick m (r .0) (r .1))
           ∙ carries-as (raisesAtDone (d .send .tx)) 2 tick m refl 0 0 [] (afterDone (d .send)) t d l)
-          (notes-if (raisesAtDone (d .send .tx)) (raisesAtDone (o .tx)) (rw (h .outbox .tx)) (eventOf 2 tick m) i _
-          out (says 0) _
-          (message-event-sound tick m ty (r .2) 2 (omega arith))
+          (notes-if (raisesAtDone (d .send .tx)) (raisesAtDone (o .tx)) (rw (h .outbox .tx))
+          (eventOf (d .shared .site) 2 tick m) i _ out (says 0) _
+          (message-event-sound (d .shared .site) tick m site-good ty (r .2) 2 (omega arith))
           (told _ _ _ _ _, with-send _ t _ empty))
 
   -- an abort
@@ -301,15 +308,15 @@ module _ (d : Device) (q t out : List ℕ) (i : ℕ) (b : Inbox) (o : Outbox) (h
       by : (r : Option Message) → Register (d .send .held) (d .send .message) r
           → Agrees
           (pick (d .send .held)
-          (Ended.noted (eventOf 3 tick (d .send .message))
+          (Ended.noted (eventOf (d .shared .site) 3 tick (d .send .message))
           (ends 0 (d .send .ring .count) [] (withSend d (afterAbort (d .send))) l))
           (ends 0 (d .send .ring .count) [] (withSend d (afterAbort (d .send))) l))
-          out (Mailed d i b (posted (counts (length (o .buffer))) after (aborts r tick)))
+          out (Mailed d i b (posted (counts (length (o .buffer))) after (aborts r (d .shared .site) tick)))
       by none z = goes-second (d .send .held) out _ _ (z .0) purge
       by (some m) r =
           goes-first (d .send .held) out _ _ (r .0)
-          (rw (r .1) (notes (eventOf 3 tick m) i _ out _ _
-          (message-event-sound tick m ty (r .2) 3 (omega arith)) purge))
+          (rw (r .1) (notes (eventOf (d .shared .site) 3 tick m) i _ out _ _
+          (message-event-sound (d .shared .site) tick m site-good ty (r .2) 3 (omega arith)) purge))
 
   -- every call
   pub send-agrees : (x : SendCall) → TypedSend x → Doing x

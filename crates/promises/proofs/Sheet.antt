@@ -41,6 +41,8 @@ use Rattle.message_text.specs.Printing.{messageRoom, messageText, messageLine, 
 use Rattle.event_text.specs.Words.{wordOf}
 use Rattle.event_text.specs.Lines.{frameText, eventText, eventLine}
 use Rattle.device.specs.State.{good}
+use Rattle.sites.specs.Sites.{noSite, goodOffset, goodSite, siteBytes, siteIn, isSite}
+use Rattle.sites.specs.Texts.{offsetText, siteText}
 use Rattle.settings.specs.Ranges.{goodShared, formatOf}
 use Rattle.device.specs.Outcomes.{Lent, lends, Outcome}
 use Rattle.device.specs.Opening.{opened}
@@ -60,7 +62,19 @@ use Rattle.promises.specs.Promised.{lostIn}
 -- one place for events and one for messages
 abbrev settings : (align code mask : ℕ) → Settings
 settings align code mask =
-    record { mode = 0; format = 0; align = align; active = 0; code = code; mask = mask; events = 0xFFF; queue = 1; tx = 1; buffer = 1 }
+    record {
+      mode = 0;
+      format = 0;
+      align = align;
+      active = 0;
+      code = code;
+      mask = mask;
+      events = 0xFFF;
+      queue = 1;
+      tx = 1;
+      buffer = 1;
+      site = noSite;
+    }
 
 abbrev tables : Lent
 tables = lends (replicate eventSize 0) (replicate messageSize 0) (replicate messageRoom 0)
@@ -172,6 +186,7 @@ unfolding rows warning reading-one outcome opened goodShared good formatOf goodR
     Judged.possible Judged.ready raiseRefusal meets unfiltered filtered framePasses idPasses isFilter
     filterLow dataCompared free fieldMeets byteMeets dataPasses maskBit maskLets queued eventBytes through freeBits
     letThrough Queue.through throughRefusal run next recordRead Queue.recordRead recordRefusal oldestRefusal isEvent
+    goodSite goodOffset siteBytes siteIn isSite
 sheet = refl
 
 -- raise 1, 2, read, raise 3, 4, read, raise 5
@@ -204,6 +219,7 @@ readInto room =
     let o : Outcome = outcome (onReceive readText) (r .device) (lent r (replicate room 0)) in
     o .number ∷ take (o .value) (o .lent .out)
 
+-- the last two rows as M-106 changed them: room 103, and the site's two fields
 pub others : List Row
 others =
     row "731 0 F 1 2 3 4 5 6 7 8 LF taken" (text "731 0 F 1 2 3 4 5 6 7 8\n")
@@ -215,9 +231,9 @@ others =
     ∷ row "Code 3FA, mask 1: two" (letIn 1 0x3FA 0x1) (0 ∷ 2 ∷ [])
     ∷ row "Raise 1, 2, read, raise 3, 4, read, raise 5: capacity 1 records 1, 3, 5" (ticks 1 fives) (1 ∷ 3 ∷ 5 ∷ [])
     ∷ row "capacity 2 records 1, 2, 3, 5" (ticks 2 fives) (1 ∷ 2 ∷ 3 ∷ 5 ∷ [])
-    ∷ row "Room 79 refused" (readInto 79) (3 ∷ [])
-    ∷ row "80 good: received TAB 0:12568 TAB 00000112 TAB 1 TAB 0 TAB 5 LF" (readInto 80)
-    (0 ∷ ascii "received\t0:12568\t00000112\t1\t0\t5\n")
+    ∷ row "Room 102 refused (M-106)" (readInto 102) (3 ∷ [])
+    ∷ row "103 good: received TAB 0:12568 TAB +00:00 TAB 0 TAB 00000112 TAB 1 TAB 0 TAB 5 LF" (readInto 103)
+    (0 ∷ ascii "received\t0:12568\t+00:00\t0\t00000112\t1\t0\t5\n")
     ∷ []
 
 -- and so they do of the other cases
@@ -230,6 +246,7 @@ unfolding others received warning reading-one outcome opened goodShared good for
     Judged.possible Judged.ready raiseRefusal meets unfiltered filtered framePasses idPasses isFilter
     filterLow dataCompared free fieldMeets byteMeets dataPasses maskBit maskLets queued eventBytes through freeBits
     letThrough Queue.through throughRefusal run next recordRead Queue.recordRead recordRefusal oldestRefusal isEvent
+    goodSite goodOffset siteBytes siteIn isSite
     textRead Queue.textRead textRefusal eventIn judgeMessage messageIn isMessage goodMessage eventLine eventText
-    frameText wordOf decimalIn
+    frameText wordOf decimalIn siteText offsetText
 others-too = refl

@@ -23,6 +23,8 @@ use Rattle.messages.proofs.RoundTrip.{stored-length, stored-good, message-back,
 use Rattle.messages.proofs.RoundTrip.{good-refusal}
 use Rattle.events.proofs.RoundTrip.{event-back, event-good-is, event-as}
 use Rattle.message_text.proofs.Ids.{raw-good}
+use Rattle.sites.specs.Sites.{goodSite}
+use Rattle.sites.specs.declared.Site.{Site}
 use Rattle.settings.specs.Binary.{sentFormat, binaryRefusal, sentMessage}
 use Rattle.settings.specs.declared.Shared.{Shared}
 use Rattle.promises.specs.Typed.{Word, Framed}
@@ -54,11 +56,20 @@ stamped-sound e n f w =
     record { code = f .code; low = f .low; high = f .high; lost = w; eight = f .eight; whole = f .whole }
 
 -- the event of a code that holds a frame
-abbrev framed : ℕ → ℕ → Message → Event
-framed code tick m = record { kind = kindOf code (m .header); low = tick; high = 0; lost = 0; bytes = stored m .bytes }
+abbrev framed : Site → ℕ → ℕ → Message → Event
+framed site code tick m = record {
+  kind = kindOf code (m .header);
+  low = tick;
+  high = 0;
+  lost = 0;
+  bytes = stored m .bytes;
+  site = site;
+}
 
-module _ (tick : ℕ) (m : Message) (t : Word tick) (eight : length (m .bytes) ≡ 8) where
-  sound-frame : (code : ℕ) → holdsFrame code ≡ true → headerRefusal (m .header) ≡ 0 → SoundEvent (framed code tick m)
+module _ (site : Site) (tick : ℕ) (m : Message) (g : goodSite site ≡ true) (t : Word tick)
+    (eight : length (m .bytes) ≡ 8) where
+  sound-frame : (code : ℕ) → holdsFrame code ≡ true → headerRefusal (m .header) ≡ 0
+      → SoundEvent (framed site code tick m)
   unfolding holdsFrame kindOf goodEvent stored
   sound-frame zero h r = absurd (apart (sym h))
   sound-frame (suc zero) h r = record {
@@ -67,7 +78,7 @@ module _ (tick : ℕ) (m : Message) (t : Word tick) (eight : length (m .bytes) �
     high = omega arith;
     lost = omega arith;
     eight = stored-length m eight;
-    whole = stored-good m r eight;
+    whole = rw (stored-good m r eight, g);
   }
   sound-frame (suc (suc zero)) h r = record {
     code = omega arith;
@@ -75,7 +86,7 @@ module _ (tick : ℕ) (m : Message) (t : Word tick) (eight : length (m .bytes) �
     high = omega arith;
     lost = omega arith;
     eight = stored-length m eight;
-    whole = stored-good m r eight;
+    whole = rw (stored-good m r eight, g);
   }
   sound-frame (suc (suc (suc zero))) h r = record {
     code = omega arith;
@@ -83,29 +94,37 @@ module _ (tick : ℕ) (m : Message) (t : Word tick) (eight : length (m .bytes) �
     high = omega arith;
     lost = omega arith;
     eight = stored-length m eight;
-    whole = stored-good m r eight;
+    whole = rw (stored-good m r eight, g);
   }
   sound-frame (suc (suc (suc (suc n)))) h r =
       let c = suc (suc (suc (suc n))) in
       absurd (omega (arith, leb-true c 3 (and-right (leb 1 c) (leb c 3) h)))
 
   -- the event of a raise whose frame is not refused
-  pub event-sound : (code : ℕ) → Word code → frameRefusal code m ≡ 0 → SoundEvent (eventOf code tick m)
+  pub event-sound : (code : ℕ) → Word code → frameRefusal code m ≡ 0 → SoundEvent (eventOf site code tick m)
   unfolding eventOf
   event-sound code w r = by (holdsFrame code) refl r
     where
       by : (b : Bool) → holdsFrame code ≡ b → pick b (headerRefusal (m .header)) 0 ≡ 0
-          → SoundEvent (pick b (framed code tick m)
-          (record { kind = Other code; low = tick; high = 0; lost = 0; bytes = replicate 8 0 }))
+          → SoundEvent (pick b (framed site code tick m)
+          (record { kind = Other code; low = tick; high = 0; lost = 0; bytes = replicate 8 0; site = site }))
       by true h r = sound-frame code h r
       by false h r =
-          record { code = w; low = t; high = omega arith; lost = omega arith; eight = refl; whole = unfold goodEvent in rw h }
+          record {
+            code = w;
+            low = t;
+            high = omega arith;
+            lost = omega arith;
+            eight = refl;
+            whole = unfold goodEvent in rw (h, g);
+          }
 
 -- a sound message in an event of its code
-pub message-event-sound : (tick : ℕ) (m : Message) → Word tick → SoundMessage m → (code : ℕ) → Word code
-    → SoundEvent (eventOf code tick m)
-message-event-sound tick m t s code w =
-    event-sound tick m t (s .eight) code w (by (holdsFrame code) (good-refusal m (s .whole)))
+pub message-event-sound : (site : Site) (tick : ℕ) (m : Message) → goodSite site ≡ true → Word tick → SoundMessage m
+    → (code : ℕ) → Word code
+    → SoundEvent (eventOf site code tick m)
+message-event-sound site tick m g t s code w =
+    event-sound site tick m g t (s .eight) code w (by (holdsFrame code) (good-refusal m (s .whole)))
   where
     by : (b : Bool) → headerRefusal (m .header) ≡ 0 → pick b (headerRefusal (m .header)) 0 ≡ 0
     by true r = r

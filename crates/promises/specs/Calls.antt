@@ -9,7 +9,7 @@ use Rattle.common.specs.Refusals.{isRefusal}
 use Rattle.inbox.specs.Calls.{looked}
 use Rattle.device.specs.State.{good}
 use Rattle.device.specs.Outcomes.{Lent, Outcome, ends}
-use Rattle.recorder.specs.Changes.{modeSet, formatSet, filterSet, eventMaskSet}
+use Rattle.recorder.specs.Changes.{modeSet, formatSet, siteSet, filterSet, eventMaskSet}
 use Rattle.recorder.specs.Receiving.{raised, recordRead, textRead, lookSaid, through}
 use Rattle.recorder.specs.Sending.{sent, textSent}
 use Rattle.recorder.specs.Register.{taken, finished, aborted}
@@ -17,14 +17,15 @@ use Rattle.recorder.specs.Printing.{messageRecordPrinted, eventRecordPrinted, m
 use Rattle.device.specs.declared.Device.{Device}
 use Rattle.model.specs.Inbox.{ReceiveCall, readRecord, readText, look, setFilter, setEventMask, identifiersThrough}
 use Rattle.model.specs.Outbox.{SendCall, send, sendText, take, done, abort}
-use Rattle.model.specs.Box.{DeviceCall, raise, setMode, setFormat, PrintCall, printMessageRecord, printEventRecord}
-use Rattle.model.specs.Box.{printMessage, Call, onDevice, onReceive, onSend, onAlign}
+use Rattle.model.specs.Box.{DeviceCall, raise, setMode, setFormat, setSite, PrintCall, printMessageRecord}
+use Rattle.model.specs.Box.{printEventRecord, printMessage, Call, onDevice, onReceive, onSend, onAlign}
 use Rattle.model.specs.Listed.{listed, beside}
 
 abbrev pub deviceOutcome : DeviceCall → Device → Lent → Outcome
 deviceOutcome (raise code tick m) d l = raised code tick m d l
 deviceOutcome (setMode mode tick) d l = modeSet mode tick d l
 deviceOutcome (setFormat format tick) d l = formatSet format tick d l
+deviceOutcome (setSite site) d l = siteSet site d l
 
 -- a look changes nothing
 abbrev pub receiveOutcome : ReceiveCall → Device → Lent → Outcome

@@ -6,6 +6,7 @@ use mathlib.Core.List.{List, [], _∷_, _++_, map}
 use mathlib.Core.Option.{Option, none, some}
 use lib.ListN.{length, drop}
 use lib.Dec.{leb}
+use Rattle.common.specs.All.{All}
 use Rattle.common.specs.Numbers.{Bytes}
 use Rattle.common.specs.Rings.{goodRing}
 use Rattle.common.specs.declared.Ring.{Ring}
@@ -28,11 +29,6 @@ use Rattle.model.specs.Outbox.{Outbox}
 use Rattle.model.specs.Box.{Box}
 use Rattle.promises.specs.Typed.{Word, Made}
 use Rattle.promises.specs.Runs.{Run, held, answered, next}
-
--- something holds of every entry of a list
-abbrev pub All : {A : Type 0} → (A → Type 0) → List A → Type 0
-All P [] = Unit {0}
-All P (x ∷ xs) = P x × All P xs
 
 -- a ring of slots of w bytes in the table t has possible numbers, fits in the table, and its slots are the bytes of
 -- the entries xs, oldest first

@@ -8,12 +8,16 @@ use Rattle.messages.specs.declared.Message.{Message}
 use Rattle.settings.specs.declared.Settings.{Settings}
 use Rattle.model.specs.Inbox.{ReceiveCall, readRecord, readText, look, setFilter, setEventMask, identifiersThrough}
 use Rattle.model.specs.Outbox.{SendCall, send, sendText, take, done, abort}
-use Rattle.model.specs.Box.{DeviceCall, raise, setMode, setFormat, PrintCall, printMessageRecord, printEventRecord}
-use Rattle.model.specs.Box.{printMessage, Call, onDevice, onReceive, onSend, onAlign, Asked}
+use Rattle.model.specs.Box.{DeviceCall, raise, setMode, setFormat, setSite, PrintCall, printMessageRecord}
+use Rattle.model.specs.Box.{printEventRecord, printMessage, Call, onDevice, onReceive, onSend, onAlign, Asked}
 
 -- a 32-bit number
 abbrev pub Word : ℕ → Type 0
 Word n = n < 4294967296
+
+-- a 64-bit number
+abbrev pub LongWord : ℕ → Type 0
+LongWord n = n < 18446744073709551616
 
 -- a frame: four numbers of 32 bits, and eight bytes
 pub record Framed (m : Message) : Type 0 where
@@ -28,6 +32,7 @@ abbrev pub TypedDevice : DeviceCall → Type 0
 TypedDevice (raise code tick m) = Word code × Word tick × Framed m
 TypedDevice (setMode mode tick) = Word mode × Word tick
 TypedDevice (setFormat format tick) = Word format × Word tick
+TypedDevice (setSite site) = Word (site .offset) × LongWord (site .second)
 
 abbrev pub TypedReceive : ReceiveCall → Type 0
 TypedReceive readRecord = Unit {0}

@@ -32,19 +32,20 @@ module _ (s : Shared) (tick : ℕ) (d : Device) (l : Lent) where
 
   pub change-0 : queueReady d l ≡ true → goodShared s ≡ true
       → changed s tick d l
-      ≡ ends 0 0 [] (withReceive (withShared d s) (met (eventOf 5 tick noMessage) (withShared d s) l .receive))
-      (withQueue l (met (eventOf 5 tick noMessage) (withShared d s) l .table))
+      ≡ ends 0 0 []
+      (withReceive (withShared d s) (met (eventOf (s .site) 5 tick noMessage) (withShared d s) l .receive))
+      (withQueue l (met (eventOf (s .site) 5 tick noMessage) (withShared d s) l .table))
   unfolding changed
-  change-0 g h = rw (g, h) (noted-ends (eventOf 5 tick noMessage) 0 0 [] (withShared d s) l)
+  change-0 g h = rw (g, h) (noted-ends (eventOf (s .site) 5 tick noMessage) 0 0 [] (withShared d s) l)
 
   -- the code's way to it: code 5 goes past the filter
   pub change-met : queueReady d l ≡ true → goodShared s ≡ true → {n : ℕ} {q : List ℕ} {r : Receive} {a : Answer}
-      → RaiseMet (unfiltered (d .receive) (eventOf 5 tick noMessage) (l .queue)) n q
-      → r ≡ unfiltered (d .receive) (eventOf 5 tick noMessage) (l .queue) .receive
+      → RaiseMet (unfiltered (d .receive) (eventOf (s .site) 5 tick noMessage) (l .queue)) n q
+      → r ≡ unfiltered (d .receive) (eventOf (s .site) 5 tick noMessage) (l .queue) .receive
       → a ≡ answerWith 0 0 (withReceive (withShared d s) r) → QueueMet (changed s tick d l) a q
   change-met g h m e p =
-      let same = no-filter s (d .receive) (eventOf 5 tick noMessage) (l .queue)
-      (other-code 5 tick noMessage (λ x. omega arith)) in
+      let same = no-filter s (d .receive) (eventOf (s .site) 5 tick noMessage) (l .queue)
+      (other-code (s .site) 5 tick noMessage (λ x. omega arith)) in
       rw (change-0 g h) (record { answer = p ∙ rw (e, ← same); queue-bytes = m .table ∙ rw (← same) })
 
 -- a change to settings s that are the definition's

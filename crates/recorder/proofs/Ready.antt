@@ -3,15 +3,14 @@ use mathlib.Core.Path.{_≡_, sym, _∙_}
 use mathlib.Core.Bool.{true, _&&_}
 use Prim.Native.Nat.{ℕ, _≤_}
 use lib.ListN.{length}
-use lib.Dec.{leb}
-use borrow.Author.Tests.{leb-true}
 use Rattle.common.proofs.Bools.{and-left, and-right}
-use Rattle.filters.specs.Filters.{modeTakes}
 use Rattle.events.specs.Records.{codeOf}
 use Rattle.messages.specs.declared.Message.{Message}
 use Rattle.events.specs.Raised.{eventOf}
 use Rattle.events.proofs.OfCode.{event-code}
+use Rattle.sites.specs.declared.Site.{Site}
 use Rattle.settings.specs.Ranges.{goodShared}
+use Rattle.settings.proofs.Laws.{good-align}
 use Rattle.queue.specs.Channel.{goodReceive, queueFits, usable}
 use Rattle.buffer.specs.Channel.{goodSend}
 use Rattle.device.specs.State.{good}
@@ -39,14 +38,13 @@ ready-usable d l h = rw (receive-good d (ready-good d l h), ready-fits d l h)
 
 -- a good device has a possible Align
 pub align-in : (d : Device) → good d ≡ true → d .shared .align ≤ 3
-unfolding good goodShared
+unfolding good
 align-in d h =
-    let s = d .shared in
-    leb-true (s .align) 3
-    (and-right (leb (s .mode) 1 && leb (s .format) 2 && modeTakes (s .mode) (s .format)) (leb (s .align) 3)
-    (and-left (goodShared s) (goodReceive (d .receive))
-    (and-left (goodShared s && goodReceive (d .receive)) (goodSend (d .send)) h)))
+    good-align (d .shared)
+    (and-left (goodShared (d .shared)) (goodReceive (d .receive))
+    (and-left (goodShared (d .shared) && goodReceive (d .receive)) (goodSend (d .send)) h))
 
 -- an event of a code other than 1 has another code than 1
-pub other-code : (code tick : ℕ) (m : Message) → (code ≡ 1 → ⊥) → codeOf (eventOf code tick m .kind) ≡ 1 → ⊥
-other-code code tick m differs e = differs (sym (event-code code tick m) ∙ e)
+pub other-code : (site : Site) (code tick : ℕ) (m : Message) → (code ≡ 1 → ⊥)
+    → codeOf (eventOf site code tick m .kind) ≡ 1 → ⊥
+other-code site code tick m differs e = differs (sym (event-code site code tick m) ∙ e)

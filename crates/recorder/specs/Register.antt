@@ -8,6 +8,7 @@ use lib.Dec.{eqb}
 use Rattle.common.specs.Choice.{pick}
 use Rattle.messages.specs.Records.{messageSize}
 use Rattle.events.specs.Raised.{eventOf}
+use Rattle.sites.specs.declared.Site.{Site}
 use Rattle.settings.specs.declared.Shared.{Shared}
 use Rattle.queue.specs.Channel.{usable}
 use Rattle.queue.specs.Recording.{Raising, raises, unfiltered}
@@ -25,12 +26,12 @@ use Rattle.device.specs.declared.Answer.{Answer}
 -- the event that a call on the send channel raises meets filter, mask and queue; code 0 is none
 unfoldable pub carriedOver : Raised → Shared → Receive → List ℕ → Raising
 carriedOver e s r q =
-    pick (eqb (e .code) 0) (raises 0 r q) (meets s r (eventOf (e .code) (e .tick) (e .message)) q)
+    pick (eqb (e .code) 0) (raises 0 r q) (meets s r (eventOf (s .site) (e .code) (e .tick) (e .message)) q)
 
 -- the same past the filter, which only code 1 meets
-unfoldable pub carriedPast : Raised → Receive → List ℕ → Raising
-carriedPast e r q =
-    pick (eqb (e .code) 0) (raises 0 r q) (unfiltered r (eventOf (e .code) (e .tick) (e .message)) q)
+unfoldable pub carriedPast : Raised → Site → Receive → List ℕ → Raising
+carriedPast e site r q =
+    pick (eqb (e .code) 0) (raises 0 r q) (unfiltered r (eventOf site (e .code) (e .tick) (e .message)) q)
 
 -- what done and abort answer once the outbox has, and the event met g: the answer, and every byte of the event table
 pub record EmptiedMet (d : Device) (o : Emptied) (g : Raising) (r : Answer) (queue : List ℕ) : Type 0 where

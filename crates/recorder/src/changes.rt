@@ -1,15 +1,16 @@
-// Changes of setting: mode and format are the device's, the rest is the inbox's once the send channel was judged.
+// Changes of setting: mode, format and site are the device's, the rest is the inbox's once the send channel was judged.
 use device::Answer;
 use device::Device;
 use device::state;
 use settings::Shared;
+use sites::Site;
 ghost use mathlib.Core.Path.{_≡_};
 ghost use mathlib.Core.List.{[]};
 ghost use Rattle.device.specs.Outcomes.{lends, answerOf};
 ghost use Rattle.recorder.specs.Outcomes.{QueueMet};
-ghost use Rattle.recorder.specs.Changes.{changed, modeSet, formatSet, filterSet, eventMaskSet};
+ghost use Rattle.recorder.specs.Changes.{changed, modeSet, formatSet, siteSet, filterSet, eventMaskSet};
 
-// Sets mode, format and Align anew, and raises code 5.
+// Sets the shared settings anew, and raises code 5.
 fn change(d: Device, s: Shared, tick: u32, queue: &mut [u8]) -> Answer
     ensures { λ r. ⌜ QueueMet (changed s tick d (lends (now (queue .entry)) [] [])) r (now (queue .exit)) ⌝ }
 {
@@ -22,6 +23,7 @@ fn change(d: Device, s: Shared, tick: u32, queue: &mut [u8]) -> Answer
     let receive = d.receive;
     let met = queue::recording::past_filter(
         receive,
+        s.site,
         5,
         tick,
         messages::records::no_message(),
@@ -51,6 +53,20 @@ pub fn set_format(d: Device, format: u32, tick: u32, queue: &mut [u8]) -> Answer
         tick,
         queue,
     )
+}
+
+// Sets the site of later events.
+pub fn set_site(d: Device, site: Site) -> Answer
+    ensures { λ r. ⌜ r ≡ answerOf (siteSet site d (lends [] [] [])) ⌝ }
+{
+    if !state::is_good(d) {
+        return state::answer(2, 0, d);
+    }
+    if !sites::ranges::is_site(site) {
+        return state::answer(1, 0, d);
+    }
+    let shared = settings::ranges::with_site(d.shared, site);
+    state::answer(0, 0, state::with_shared(d, shared))
 }
 
 // Sets code and mask of the filter.

@@ -8,6 +8,7 @@ use messages::records::MESSAGE;
 use outbox::Emptied;
 use outbox::Raised;
 use queue::Receive;
+use sites::Site;
 ghost use mathlib.Core.Path.{_≡_};
 ghost use mathlib.Core.Bool.{true};
 ghost use mathlib.Core.List.{[]};
@@ -18,26 +19,27 @@ ghost use Rattle.recorder.specs.Outcomes.{QueueMet, TakeMet};
 ghost use Rattle.recorder.specs.Register.{carriedPast, EmptiedMet, taken, finished, aborted};
 
 // Carries the event that a call raised, if any (code 0 is none), to the queue; only code 1 would meet the filter.
-fn carry(r: Receive, e: Raised, queue: &mut [u8]) -> u32
+fn carry(site: Site, r: Receive, e: Raised, queue: &mut [u8]) -> u32
     requires { ⌜ usable r (now queue) ≡ true ⌝ }
-    ensures { λ n. ⌜ RaiseMet (carriedPast e r (now (queue .entry))) n (now (queue .exit)) ⌝ }
+    ensures { λ n. ⌜ RaiseMet (carriedPast e site r (now (queue .entry))) n (now (queue .exit)) ⌝ }
 {
     if e.code == 0 {
         return 0;
     }
     let m = e.message;
-    queue::recording::past_filter(r, e.code, e.tick, m, queue)
+    queue::recording::past_filter(r, site, e.code, e.tick, m, queue)
 }
 
 // What done and abort answer, with the event carried to the queue.
 fn emptied(d: Device, o: Emptied, queue: &mut [u8]) -> Answer
     requires { ⌜ usable (d .receive) (now queue) ≡ true ⌝ }
-    ensures { λ r. ⌜ EmptiedMet d o (carriedPast (o .raised) (d .receive) (now (queue .entry)))
+    ensures { λ r. ⌜ EmptiedMet d o (carriedPast (o .raised) (d .shared .site) (d .receive) (now (queue .entry)))
         r (now (queue .exit)) ⌝ }
 {
     let next = o.send;
     let receive = d.receive;
-    let met = carry(receive, o.raised, queue);
+    let shared = d.shared;
+    let met = carry(shared.site, receive, o.raised, queue);
     let after = state::with_channels(d, queue::recording::after_raise(receive, met), next);
     state::answer(o.number, o.value, after)
 }
@@ -59,7 +61,8 @@ pub fn take(d: Device, tick: u32, send: &[u8], queue: &mut [u8]) -> Taken
     let b = o.bytes;
     let next = o.send;
     let receive = d.receive;
-    let met = carry(receive, o.raised, queue);
+    let shared = d.shared;
+    let met = carry(shared.site, receive, o.raised, queue);
     let after = state::with_channels(d, queue::recording::after_raise(receive, met), next);
     Taken {
         number: o.number,

@@ -5,7 +5,8 @@ use mathlib.Core.Bool.{Bool, true, false, not, _&&_}
 use Prim.Native.Nat.{ℕ, zero, suc, _+_, _≤_, _<_}
 use native.Mathlib.Omega.{arith}
 use lib.Dec.{leb, eqb}
-use borrow.Author.Tests.{eqb-true, eq-eqb, ne-eqb, lt-leb}
+use borrow.Author.Tests.{eqb-true, eq-eqb, ne-eqb, leb-true, lt-leb}
+use Rattle.common.proofs.Bools.{and-left, and-right}
 use Rattle.common.proofs.Choices.{pick-is}
 use Rattle.ids.specs.Ids.{isFormat, rawOf}
 use Rattle.filters.specs.Filters.{modeTakes}
@@ -14,8 +15,10 @@ use Rattle.ids.specs.declared.Id.{Id}
 use Rattle.ids.specs.declared.Id.the-variants.{Good, Bad}
 use Rattle.messages.specs.Records.{stored}
 use Rattle.messages.specs.declared.Message.{Message}
+use Rattle.sites.specs.Sites.{goodSite}
+use Rattle.sites.specs.declared.Site.{Site}
 use Rattle.settings.specs.TxMode.{goodTx}
-use Rattle.settings.specs.Ranges.{goodShared}
+use Rattle.settings.specs.Ranges.{goodShared, withSite}
 use Rattle.settings.specs.Binary.{sentFormat, binaryRefusal, sentMessage, notBrought, brought}
 use Rattle.settings.specs.declared.Shared.{Shared}
 use Rattle.settings.specs.declared.Brought.{Brought}
@@ -76,14 +79,15 @@ module _ (s : Shared) (m : Message) where
   brought-message h = rw (eq-eqb _ 0 h)
 
 -- the code's test of the default format: mode 0 has the formats 0 and 1, mode 1 has 2 as well
-pub shared-tests : (s : Shared) → s .mode ≤ 1 → goodShared s ≡ (leb (s .format) (s .mode + 1) && leb (s .align) 3)
+pub shared-tests : (s : Shared) → s .mode ≤ 1
+    → goodShared s ≡ (leb (s .format) (s .mode + 1) && leb (s .align) 3 && goodSite (s .site))
 unfolding goodShared modeTakes
 shared-tests s h = by (s .mode) h
   where
     by : (m : ℕ) → m ≤ 1
-        → (leb m 1 && leb (s .format) 2 && not (eqb m 0 && eqb (s .format) 2) && leb (s .align) 3)
-        ≡ (leb (s .format) (m + 1) && leb (s .align) 3)
-    by zero z = ap (λ (t : Bool). t && leb (s .align) 3) (formats (s .format))
+        → (leb m 1 && leb (s .format) 2 && not (eqb m 0 && eqb (s .format) 2) && leb (s .align) 3 && goodSite (s .site))
+        ≡ (leb (s .format) (m + 1) && leb (s .align) 3 && goodSite (s .site))
+    by zero z = ap (λ (t : Bool). t && leb (s .align) 3 && goodSite (s .site)) (formats (s .format))
       where
         formats : (f : ℕ) → (leb f 2 && not (eqb f 2)) ≡ leb f 1
         formats zero = refl
@@ -94,7 +98,7 @@ shared-tests s h = by (s .mode) h
           lt-leb (suc (suc (suc f))) 1
               (omega arith),
         )
-    by (suc zero) z = ap (λ (t : Bool). t && leb (s .align) 3) (and-true (leb (s .format) 2))
+    by (suc zero) z = ap (λ (t : Bool). t && leb (s .align) 3 && goodSite (s .site)) (and-true (leb (s .format) 2))
       where
         and-true : (t : Bool) → (t && true) ≡ t
         and-true true = refl
@@ -105,3 +109,23 @@ shared-tests s h = by (s .mode) h
 pub shared-mode : (s : Shared) → 1 < s .mode → goodShared s ≡ false
 unfolding goodShared
 shared-mode s h = rw (lt-leb (s .mode) 1 h)
+
+-- what is in range of good settings
+module _ (s : Shared) (h : goodShared s ≡ true) where
+  abbrev fields : Bool
+  fields = leb (s .mode) 1 && leb (s .format) 2 && modeTakes (s .mode) (s .format)
+
+  pub good-align : s .align ≤ 3
+  unfolding goodShared
+  good-align =
+      leb-true (s .align) 3
+      (and-right fields (leb (s .align) 3) (and-left (fields && leb (s .align) 3) (goodSite (s .site)) h))
+
+  pub site-in-range : goodSite (s .site) ≡ true
+  unfolding goodShared
+  site-in-range = and-right (fields && leb (s .align) 3) (goodSite (s .site)) h
+
+  -- and they stay good with another site in range
+  pub site-set-good : (site : Site) → goodSite site ≡ true → goodShared (withSite s site) ≡ true
+  unfolding goodShared
+  site-set-good site g = rw (and-left (fields && leb (s .align) 3) (goodSite (s .site)) h) g

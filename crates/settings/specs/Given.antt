@@ -1,12 +1,16 @@
 -- The settings as one list of numbers, as opening is given them in C (01, "Settings").
-use Prim.Native.Nat.{ℕ}
+use Prim.Native.Nat.{ℕ, _+_, _*_, _^_}
 use mathlib.Core.List.{List}
 use lib.ListN.{getD}
 use Rattle.settings.specs.declared.Settings.{Settings}
 
 -- how many numbers the settings are
 abbrev pub settingsSize : ℕ
-settingsSize = 10
+settingsSize = 13
+
+-- a second given as two numbers, its low 32 bits and its high ones
+abbrev pub joined : ℕ → ℕ → ℕ
+joined low high = low + 2 ^ 32 * high
 
 -- the settings that those numbers stand for, in their order
 abbrev pub settingsIn : List ℕ → Settings
@@ -21,6 +25,5 @@ settingsIn given = record {
   queue = getD given 7 0;
   tx = getD given 8 0;
   buffer = getD given 9 0;
+  site = record { offset = getD given 10 0; second = joined (getD given 11 0) (getD given 12 0) };
 }
-
--- opening: 1 where a setting is missing or too many are given, else the recorder's outcome, and 2 where it would open

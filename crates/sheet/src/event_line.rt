@@ -1,4 +1,4 @@
-// The event text and its room.
+// The event text and its room, as request M-106 changed them: two fields more, the site's, here zero.
 use crate::queueing;
 use crate::setting;
 use device::Device;
@@ -13,8 +13,10 @@ fn write_room(said: &[u8], number: u32) {
 }
 
 fn write_line(number: u32, line: &[u8], length: usize) {
-    write_room(b"80 good", number);
-    show::words::says(b"`received` TAB `0:12568` TAB `00000112` TAB `1` TAB `0` TAB `5` LF");
+    write_room(b"103 good", number);
+    show::words::says(
+        b"`received` TAB `0:12568` TAB `+00:00` TAB `0` TAB `00000112` TAB `1` TAB `0` TAB `5` LF",
+    );
     show::write_front(line, length);
 }
 
@@ -25,11 +27,11 @@ fn read_line(d: Device, queue: &[u8]) {
 }
 
 fn write_short(number: u32) {
-    write_room(b"Room 79 refused", number);
+    write_room(b"Room 102 refused (M-106)", number);
 }
 
 fn read_short(d: Device, queue: &[u8]) {
-    let refused = receiving::read_text(d, queue, &mut [0u8; 79]);
+    let refused = receiving::read_text(d, queue, &mut [0u8; 102]);
     write_short(refused.number);
     read_line(refused.device, queue);
 }

@@ -64,7 +64,7 @@ fn call(d: Device, name: u8, lost: bool, queue: &mut [u8]) -> Answer {
 
 // Makes the calls of a script on a new device, whose filter lets every frame pass.
 pub fn play(script: &[u8], lost: bool, queue: &mut [u8]) -> Answer {
-    let mut last = setting::open(0, 0, 0xFFFFFFFF, show::counted(queue.len() / 32));
+    let mut last = setting::open(0, 0, 0xFFFFFFFF, show::counted(queue.len() / EVENT));
     let mut i = 0;
     while i < script.len() {
         last = call(last.device, script[i], lost, queue);
@@ -95,7 +95,7 @@ fn recorded() {
         b"capacity 2 records 1, 2, 3, 5",
         b"12.34,5,,",
         false,
-        &mut [0u8; 64],
+        &mut [0u8; 2 * EVENT],
     );
 }
 

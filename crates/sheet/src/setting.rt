@@ -1,5 +1,6 @@
 // The device of a case, and its frames.
 use device::Answer;
+use events::records::EVENT;
 use ids::Header;
 use messages::Message;
 use settings::Settings;
@@ -17,13 +18,14 @@ fn settings(align: u32, code: u32, mask: u32, capacity: u32) -> Settings {
         queue: capacity,
         tx: 1,
         buffer: 1,
+        site: sites::records::no_site(),
     }
 }
 
 // Opens a device of capacity 1 or 2; no byte of the tables is written, so that each case lends its own to the calls.
 pub fn open(align: u32, code: u32, mask: u32, capacity: u32) -> Answer {
     let s = settings(align, code, mask, capacity);
-    let table = [0u8; 64];
+    let table = [0u8; 2 * EVENT];
     device::opening::open(s, &table, &table)
 }
 

@@ -41,9 +41,9 @@ pub fn refused_line(number: u32, used: u32) -> Line
 {
     let mut line = [0u8; 40];
     let p = writing::put_text(&mut line, 0, b"refused ");
-    let q = writing::put_decimal(&mut line, p, number);
+    let q = writing::put_decimal(&mut line, p, number as u64);
     let r = writing::put_text(&mut line, q, b" used ");
-    let s = writing::put_decimal(&mut line, r, used);
+    let s = writing::put_decimal(&mut line, r, used as u64);
     let end = writing::put_byte(&mut line, s, 10);
     Line {
         bytes: line,
@@ -91,6 +91,6 @@ pub fn write_refused(number: u32, used: u32) {
 // Writes a number in decimal.
 pub fn write_number(n: u32) {
     let mut line = [0u8; 10];
-    let length = writing::put_decimal(&mut line, 0, n);
+    let length = writing::put_decimal(&mut line, 0, n as u64);
     write_front(&line, length);
 }

@@ -1,9 +1,11 @@
 //! Prints the bench sheet case by case: the paper's words, then what was computed.
-//! Align 0, mode 0 unless said; MaskActive 0.
+//! Align 0, mode 0 unless said; MaskActive 0, site zero.
 
 use std::io::Write;
 
-use independent::{Device, Message, Settings, EVENT_BYTES, EVENT_ROOM, MESSAGE_BYTES, MESSAGE_ROOM};
+use independent::{
+    Device, Message, Settings, Site, EVENT_BYTES, EVENT_ROOM, MESSAGE_BYTES, MESSAGE_ROOM,
+};
 
 const RECEIVED: u32 = 1;
 const STANDARD: u32 = 1;
@@ -20,6 +22,7 @@ const SETTINGS: Settings = Settings {
     queue_capacity: 1,
     tx_mode: 1,
     send_capacity: 1,
+    site: Site::ZERO,
 };
 
 /// A device with tables of its own.
@@ -206,6 +209,7 @@ fn queueing() -> Vec<String> {
     ]
 }
 
+/// 01's last case with room and line as M-106 of 02 has them.
 fn event_line() -> Vec<String> {
     let mut bed = Bed::open(SETTINGS);
     for tick in 0..6 {
@@ -213,14 +217,16 @@ fn event_line() -> Vec<String> {
     }
     bed.read();
     bed.raise(12_568, &frame(0x112, 1, &[]));
-    let (refused, _) = bed.device.read_text(&bed.queue, &mut [0; 79]);
+    let (refused, _) = bed.device.read_text(&bed.queue, &mut [0; 102]);
     let mut room = [0; EVENT_ROOM];
     let (good, length) = bed.device.read_text(&bed.queue, &mut room);
     let line = String::from_utf8_lossy(&room[..length]);
+    let said = "`received` TAB `0:12568` TAB `+00:00` TAB `0` \
+                TAB `00000112` TAB `1` TAB `0` TAB `5` LF";
     vec![
-        format!("Room 79 refused => {refused}\n"),
-        format!("80 good => {good}\n"),
-        format!("`received` TAB `0:12568` TAB `00000112` TAB `1` TAB `0` TAB `5` LF => {line}"),
+        format!("Room 102 refused (M-106) => {refused}\n"),
+        format!("103 good => {good}\n"),
+        format!("{said} => {line}"),
     ]
 }
 

@@ -3,7 +3,7 @@
 
 use crate::rig::{Rig, FRAME, OPEN_TO_ALL};
 use crate::xorshift::Xorshift;
-use independent::{Device, Message, Ring, Settings};
+use independent::{Device, Message, Ring, Settings, Site};
 
 /// Small numbers, limits and their neighbours, and anything.
 fn number(random: &mut Xorshift) -> u32 {
@@ -13,8 +13,8 @@ fn number(random: &mut Xorshift) -> u32 {
         0xFFF,
         0x1000,
         1_024,
-        2_048,
-        2_049,
+        1_638,
+        1_639,
         0x1FFF_FFFF,
         0xFFFF_FFFF,
     ];
@@ -22,6 +22,24 @@ fn number(random: &mut Xorshift) -> u32 {
         0 => random.next(),
         1 => random.pick(&edges),
         _ => random.below(9),
+    }
+}
+
+/// Each half in range, at its edges and beyond.
+fn site(random: &mut Xorshift) -> Site {
+    let offsets = [
+        0,
+        840,
+        841,
+        65_535,
+        4_294_966_575,
+        4_294_966_576,
+        4_294_967_295,
+    ];
+    let seconds = [0, 1 << 32, (1 << 48) - 1, 1 << 48, u64::MAX];
+    Site {
+        offset: random.pick(&offsets),
+        second: random.pick(&seconds),
     }
 }
 
@@ -43,7 +61,7 @@ fn device(random: &mut Xorshift) -> Device {
     let mut device = Rig::open(OPEN_TO_ALL).device;
     for _ in 0..1 + random.below(3) {
         let value = number(random);
-        match random.below(18) {
+        match random.below(20) {
             0 => device.shared.mode = value,
             1 => device.shared.format = value,
             2 => device.shared.align = value,
@@ -59,6 +77,7 @@ fn device(random: &mut Xorshift) -> Device {
             12 => device.send.ring.capacity = value,
             13 => device.send.ring.first = value,
             14 => device.send.ring.count = value,
+            15 | 16 => device.shared.site = site(random),
             _ => device.send.register = Some(message(random)),
         }
     }
@@ -141,12 +160,16 @@ fn any_call_without_table(
     out: &mut [u8],
 ) -> (u32, bool) {
     let (a, b) = (number(random), number(random));
-    match random.below(6) {
+    match random.below(7) {
         0 => alone(device.set_filter(a, b)),
         1 => alone(device.set_event_mask(a)),
         2 => counted(device.print_message_record(&bytes(random, 16), out)),
-        3 => counted(device.print_event_record(&bytes(random, 32), out)),
-        4 => counted(device.print_message(&message(random), out)),
+        3 => counted(device.print_event_record(&bytes(random, 40), out)),
+        4 => {
+            let given = site(random);
+            alone(device.set_site(given.offset, given.second))
+        }
+        5 => counted(device.print_message(&message(random), out)),
         _ => {
             let (number, through) = device.identifiers_through(a);
             (number, through == 0)
@@ -173,11 +196,11 @@ fn every_call_answers_at_any_values_and_a_refusal_changes_nothing() {
     for _ in 0..60_000 {
         let mut rig = Rig {
             device: device(&mut random),
-            queue: bytes(&mut random, 4 * 32),
+            queue: bytes(&mut random, 4 * 40),
             buffer: bytes(&mut random, 3 * 16),
         };
         let before = rig.clone();
-        let mut out = vec![b'?'; random.pick(&[0, 36, 37, 79, 80, 200])];
+        let mut out = vec![b'?'; random.pick(&[0, 36, 37, 102, 103, 200])];
         let (number, zero_values) = any_call(&mut random, &mut rig, &mut out);
         if (1..=14).contains(&number) {
             assert_eq!(rig, before);
@@ -197,19 +220,19 @@ fn every_call_answers_at_any_values_and_a_refusal_changes_nothing() {
 #[test]
 fn largest_capacities_work_to_the_last_slot() {
     let mut rig = Rig::open(Settings {
-        queue_capacity: 2_048,
+        queue_capacity: 1_638,
         send_capacity: 1_024,
         ..OPEN_TO_ALL
     });
     rig.device.receive.ring = Ring {
-        first: 2_047,
+        first: 1_637,
         ..rig.device.receive.ring
     };
     rig.device.send.ring = Ring {
         first: 1_023,
         ..rig.device.send.ring
     };
-    for tick in 0..2_048 {
+    for tick in 0..1_638 {
         assert_eq!(rig.raise(1, tick, &FRAME), 100);
     }
     assert_eq!(rig.raise(1, 0, &FRAME), 103);
@@ -217,8 +240,8 @@ fn largest_capacities_work_to_the_last_slot() {
         assert_eq!(rig.send_text(b"1 0 0\n").0, 0);
     }
     assert_eq!(rig.send_text(b"1 0 0\n"), (5, 0));
-    assert_eq!(rig.device.look_number(2_047, &rig.queue), 0);
-    assert_eq!(rig.device.look_number(2_048, &rig.queue), 4);
-    assert_eq!(rig.queued().len(), 2_048);
+    assert_eq!(rig.device.look_number(1_637, &rig.queue), 0);
+    assert_eq!(rig.device.look_number(1_638, &rig.queue), 4);
+    assert_eq!(rig.queued().len(), 1_638);
     assert_eq!(rig.abort(0), (0, 1_024));
 }

@@ -12,7 +12,7 @@ fn mode_and_format_changes_raise_code_5_even_for_the_same_value() {
     assert_eq!(rig.device.set_format(1, 13, &mut rig.queue), 0);
     assert_eq!(rig.queued(), [(5, 10), (5, 11), (5, 12), (5, 13)]);
     assert_eq!((rig.device.shared.mode, rig.device.shared.format), (0, 1));
-    assert_eq!(rig.read_line(), "device changed\t0:10\n");
+    assert_eq!(rig.read_line(), "device changed\t0:10\t+00:00\t0\n");
 }
 
 #[test]

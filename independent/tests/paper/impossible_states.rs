@@ -15,6 +15,7 @@ fn with_settings(settings: &Settings) -> Device {
     device.receive.ring.capacity = settings.queue_capacity;
     device.send.tx_mode = settings.tx_mode;
     device.send.ring.capacity = settings.send_capacity;
+    device.shared.site = settings.site;
     device
 }
 
@@ -70,7 +71,7 @@ fn impossible_devices() -> Vec<Device> {
 
 /// Every call that is lent the queue table, with arguments that are bad as well.
 fn calls_with_queue(rig: &mut Rig) -> Vec<u32> {
-    let mut out = [b'?'; 80];
+    let mut out = [b'?'; 103];
     let Rig {
         device,
         queue,
@@ -93,7 +94,7 @@ fn calls_with_queue(rig: &mut Rig) -> Vec<u32> {
         device.abort(0, queue).0,
     ];
     assert!(device.look(0, queue).is_empty());
-    assert_eq!(out, [b'?'; 80]);
+    assert_eq!(out, [b'?'; 103]);
     answers
 }
 
@@ -115,12 +116,14 @@ fn calls_with_buffer(rig: &mut Rig) -> Vec<u32> {
 
 /// Every call that is lent no table.
 fn calls_without_table(rig: &mut Rig) -> Vec<u32> {
-    let mut out = [b'?'; 80];
+    let mut out = [b'?'; 103];
     let device = &mut rig.device;
     let answers = vec![
         device.set_filter(1, 2),
         device.set_event_mask(0x1000),
         device.set_event_mask(1),
+        device.set_site(841, 0),
+        device.set_site(0, 0),
         device.print_message_record(&[], &mut []).0,
         device.print_event_record(&[], &mut []).0,
         device.print_message(&FRAME, &mut []).0,
@@ -128,7 +131,7 @@ fn calls_without_table(rig: &mut Rig) -> Vec<u32> {
         device.identifiers_through(9).0,
         device.identifiers_through(1).0,
     ];
-    assert_eq!(out, [b'?'; 80]);
+    assert_eq!(out, [b'?'; 103]);
     answers
 }
 
@@ -165,8 +168,8 @@ fn zero_values_stand_beside_2() {
         queue,
         buffer,
     } = &mut rig;
-    assert_eq!(device.read_text(queue, &mut [0; 80]), (2, 0));
-    assert_eq!(device.read_record(queue), (2, [0; 32]));
+    assert_eq!(device.read_text(queue, &mut [0; 103]), (2, 0));
+    assert_eq!(device.read_record(queue), (2, [0; 40]));
     assert_eq!(device.send_text(b"1 0 0\n", buffer), (2, 0));
     assert_eq!(device.take(0, buffer, queue), (2, [0; 16]));
     assert_eq!(device.abort(0, queue), (2, 0));
@@ -201,7 +204,7 @@ fn short_table_of_the_other_ring_does_not_matter() {
 #[test]
 fn longer_tables_are_fine() {
     let mut rig = Rig::open(OPEN_TO_ALL);
-    rig.queue.extend([0xEE; 33]);
+    rig.queue.extend([0xEE; 41]);
     rig.buffer.extend([0xEE; 17]);
     for tick in 0..10 {
         rig.raise(1, tick, &FRAME);
@@ -210,7 +213,7 @@ fn longer_tables_are_fine() {
         rig.done(tick);
         rig.read_record();
     }
-    assert!(rig.queue[4 * 32..].iter().all(|byte| *byte == 0xEE));
+    assert!(rig.queue[4 * 40..].iter().all(|byte| *byte == 0xEE));
     assert!(rig.buffer[3 * 16..].iter().all(|byte| *byte == 0xEE));
 }
 

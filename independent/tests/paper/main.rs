@@ -13,5 +13,6 @@ mod reading;
 mod records;
 mod rig;
 mod sending;
+mod sites;
 mod transmitting;
 mod xorshift;

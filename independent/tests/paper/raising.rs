@@ -32,12 +32,12 @@ fn other_codes_ignore_even_a_bad_frame() {
             let (number, record) = rig.read_record();
             assert_eq!((number, number_at(&record, 0)), (0, code));
             assert_eq!(record[4..8], [4, 3, 2, 1]);
-            assert_eq!(record[8..], [0; 24]);
+            assert_eq!(record[8..], [0; 32]);
         }
     }
 }
 
-/// Every byte of the 32, the largest numbers and bytes not carried included.
+/// Every byte of the 40, the largest numbers and bytes not carried included.
 #[test]
 fn record_layout_of_an_event_with_a_frame() {
     let mut rig = Rig::open(ONE_PLACE);
@@ -49,10 +49,11 @@ fn record_layout_of_an_event_with_a_frame() {
         dlc: 3,
         data: [1, 2, 3, 4, 5, 6, 7, 8],
     };
+    assert_eq!(rig.device.set_site(4_294_967_206, 0x0102_0304_0506), 0);
     assert_eq!(rig.raise(2, 0x1122_3344, &frame), 100);
     let expected = [
         2, 0, 0, 0, 0x44, 0x33, 0x22, 0x11, 0, 0, 0, 0, 0xD4, 0xC3, 0xB2, 0xA1, 0xF0, 0xDE, 0xBC,
-        0x1A, 2, 0, 3, 0, 1, 2, 3, 0, 0, 0, 0, 0,
+        0x1A, 2, 0, 3, 0, 1, 2, 3, 0, 0, 0, 0, 0, 0xA6, 0xFF, 0x06, 0x05, 0x04, 0x03, 0x02, 0x01,
     ];
     assert_eq!(rig.queue, expected);
     assert_eq!(rig.device.receive.pending, 0);
@@ -72,7 +73,7 @@ fn bytes_not_carried_are_stored_as_zero() {
         assert_eq!(rig.raise(1, 0, &frame), 100);
         let mut expected = [0; 8];
         expected[..carried].fill(9);
-        assert_eq!(rig.queue[24..], expected);
+        assert_eq!(rig.queue[24..32], expected);
     }
 }
 
@@ -131,10 +132,10 @@ fn ring_wraps_around() {
         let before = rig.queue.clone();
         assert_eq!(rig.raise(9, tick, &FRAME), 100);
         for slot in (0..3).filter(|slot| *slot != tick as usize % 3) {
-            let bytes = slot * 32..slot * 32 + 32;
+            let bytes = slot * 40..slot * 40 + 40;
             assert_eq!(rig.queue[bytes.clone()], before[bytes]);
         }
-        assert_eq!(number_at(&rig.queue, tick as usize % 3 * 32 + 4), tick);
+        assert_eq!(number_at(&rig.queue, tick as usize % 3 * 40 + 4), tick);
     }
 }
 
@@ -154,5 +155,8 @@ fn lost_count_stops_at_the_largest_number() {
     let (_, record) = rig.device.clone().read_record(&rig.queue);
     assert_eq!(lost_of(&record), 4_294_967_295);
     let line = rig.read_line();
-    assert_eq!(line, "received\t0:2\t00000123\t0\t2\t11\t22\t4294967295\n");
+    assert_eq!(
+        line,
+        "received\t0:2\t+00:00\t0\t00000123\t0\t2\t11\t22\t4294967295\n"
+    );
 }

@@ -21,21 +21,21 @@ fn message_is_good(bytes: &[u8]) -> bool {
 
 fn event_is_good(bytes: &[u8]) -> bool {
     let rig = Rig::open(OPEN_TO_ALL);
-    let mut out = [b'?'; 80];
+    let mut out = [b'?'; 103];
     match rig.device.print_event_record(bytes, &mut out) {
         (0, _) => true,
         (14, 0) => {
-            assert_eq!(out, [b'?'; 80]);
+            assert_eq!(out, [b'?'; 103]);
             false
         }
         other => panic!("{other:?}"),
     }
 }
 
-fn event(code: u32, frame: &[u8; 16]) -> [u8; 32] {
-    let mut bytes = [0xFF; 32];
+fn event(code: u32, frame: &[u8; 16]) -> [u8; 40] {
+    let mut bytes = [0xFF; 40];
     bytes[..4].copy_from_slice(&code.to_le_bytes());
-    bytes[16..].copy_from_slice(frame);
+    bytes[16..32].copy_from_slice(frame);
     bytes
 }
 
@@ -124,7 +124,7 @@ fn wrong_length_is_14() {
     let whole = event(1, &MESSAGE);
     let long = [whole.as_slice(), &[0]].concat();
     assert!(event_is_good(&whole));
-    for bytes in [&[], &MESSAGE[..], &whole[..31], &long] {
+    for bytes in [&[], &MESSAGE[..], &whole[..32], &whole[..39], &long] {
         assert!(!event_is_good(bytes));
     }
 }

@@ -1,6 +1,6 @@
 //! A device with tables of its own, and helpers that every subject uses.
 
-use independent::{Device, Message, Settings, EVENT_BYTES, MESSAGE_BYTES};
+use independent::{Device, Message, Settings, Site, EVENT_BYTES, MESSAGE_BYTES};
 
 /// Everything passes filter and mask, and transmitted events are raised at done.
 pub const OPEN_TO_ALL: Settings = Settings {
@@ -14,6 +14,13 @@ pub const OPEN_TO_ALL: Settings = Settings {
     queue_capacity: 4,
     tx_mode: 7,
     send_capacity: 3,
+    site: Site::ZERO,
+};
+
+/// Both numbers at an end of their ranges: minus 720, and the largest of six bytes.
+pub const FAR_SITE: Site = Site {
+    offset: 4_294_966_576,
+    second: 281_474_976_710_655,
 };
 
 pub const MODE_0: Settings = Settings {
@@ -55,13 +62,13 @@ impl Rig {
         self.device.raise(code, tick, frame, &mut self.queue)
     }
 
-    pub fn read_record(&mut self) -> (u32, [u8; 32]) {
+    pub fn read_record(&mut self) -> (u32, [u8; 40]) {
         self.device.read_record(&self.queue)
     }
 
     /// Reads the oldest event as text, with room enough, and expects success.
     pub fn read_line(&mut self) -> String {
-        let mut out = [b'?'; 100];
+        let mut out = [b'?'; 120];
         let (number, length) = self.device.read_text(&self.queue, &mut out);
         assert_eq!(number, 0);
         written_line(&out, length)

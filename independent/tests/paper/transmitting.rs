@@ -153,5 +153,8 @@ fn extended_message_is_taken_in_mode_0() {
     assert_eq!(rig.take(1).0, 0);
     assert_eq!(rig.queued(), [(5, 0), (2, 1)]);
     rig.read_record();
-    assert_eq!(rig.read_line(), "transmitted\t0:1\t0000000A\t0\t1\t55\n");
+    assert_eq!(
+        rig.read_line(),
+        "transmitted\t0:1\t+00:00\t0\t0000000A\t0\t1\t55\n"
+    );
 }

@@ -35,7 +35,7 @@ slot-of-requires c κs =
     let none = look-taken (a .p) d (now (a .queue)) (sym (look-number .ensures) ∙ if2 .left) in
     let g = look-good (d .shared) (d .receive) (length (now (a .queue))) (a .p) _ refl none in
     let f = receive-ring (d .receive) (g .0) in
-    (f .within, f .first-in, omega (arith, f .count-in, g .1))
+    (omega (arith, f .within), f .first-in, omega (arith, f .count-in, g .1))
 
 returns-3 : tie.Need-returns-3
 returns-3 c =

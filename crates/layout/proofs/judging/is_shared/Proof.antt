@@ -1,4 +1,6 @@
-use Rattle.layout.proofs.Judged.{mode-out, format-out, align-said}
+use Rattle.layout.proofs.Judged.{mode-out, format-out, align-out, site-said}
+use mathlib.Core.Path.{_∙_, ap}
+use Rattle.sites.specs.Sites.{goodSite}
 use denote.Ref.{now}
 use borrow.Author.Needs.{needs}
 use Rattle.layout.proofs.judging.is_shared.Statement.{statement}
@@ -11,19 +13,28 @@ returns c =
 
 returns-2 : tie.Need-returns-2
 returns-2 c =
-    let a = c .before .before .before .before .before .args in
-    let mode = c .before .before .before .word in
-    let if1 = c .before .before .if1 in
-    format-out (now (a .s)) (a .at) _ (mode .ensures) (if1 .left) _ (c .before .word2 .ensures) (c .if2 .taken)
+    let past = c .before .before in
+    let a = past .before .before .before .args in
+    format-out (now (a .s)) (a .at) _ (past .before .word .ensures) (past .if1 .left) _ (c .before .word2 .ensures)
+    (c .if2 .taken)
 
 returns-3 : tie.Need-returns-3
 returns-3 c =
-    let a = c .before .before .before .before .before .before .args in
-    let mode = c .before .before .before .before .word in
-    let if1 = c .before .before .before .if1 in
-    let format = c .before .before .word2 in
-    align-said (now (a .s)) (a .at) _ (mode .ensures) (if1 .left) _ (format .ensures) _ (c .word3 .ensures)
-    (c .before .if2 .left)
+    let past = c .before .before in
+    let older = past .before .before in
+    let a = older .before .before .before .args in
+    align-out (now (a .s)) (a .at) _ (older .before .word .ensures) (older .if1 .left) _ (past .before .word2 .ensures)
+    _ (c .before .word3 .ensures) (past .if2 .left) (c .if3 .taken)
+
+returns-4 : tie.Need-returns-4
+returns-4 c =
+    let last = c .before .before in
+    let past = last .before .before in
+    let older = past .before .before in
+    let a = older .before .before .before .args in
+    site-said (now (a .s)) (a .at) _ (older .before .word .ensures) (older .if1 .left) _ (past .before .word2 .ensures)
+    _ (last .before .word3 .ensures) (past .if2 .left) (last .if3 .left)
+    (c .is-site .ensures ∙ ap goodSite (c .before .site-from .ensures))
 
 pub is-shared-spec : {M : Type 1} → statement M
 is-shared-spec =
@@ -37,4 +48,8 @@ is-shared-spec =
     returns-2
     (λ c. search needs)
     (λ c κs. search needs)
-    returns-3)
+    returns-3
+    (λ c. search needs)
+    (λ c κs. search needs)
+    (λ c κs. search needs)
+    returns-4)

@@ -39,7 +39,7 @@ past-filter-requires c κs =
 after-raise-requires : tie.Need-after-raise-requires
 after-raise-requires c κs =
     let a = c .before .before .before .before .before .before .before .before .before .before .before .before .args in
-    room-for (next-past (a .d .receive) (eventOf 5 (a .tick) _) (now (a .queue)))
+    room-for (next-past (a .d .receive) (eventOf (a .s .site) 5 (a .tick) _) (now (a .queue)))
     (c .before .before .before .past-filter .ensures .number)
 
 returns-3 : tie.Need-returns-3
@@ -49,7 +49,7 @@ returns-3 c =
     let good = said (past .before .is-shared .ensures) (past .if2 .left) in
     let a = past .before .before .before .before .before .args in
     let l = lends (now (a .queue)) [] [] in
-    let e = eventOf 5 (a .tick) noMessage in
+    let e = eventOf (a .s .site) 5 (a .tick) noMessage in
     let met = rw (c .before .before .before .before .before .before .before .before .no-message .ensures) at
     (c .before .before .before .before .before .before .past-filter .ensures) in
     let next = built (next-past (a .d .receive) e (now (a .queue))) (met .number)

@@ -10,14 +10,15 @@ use Rattle.recorder.proofs.register.emptied.Tie as tie
 
 after-raise-requires : tie.Need-after-raise-requires
 after-raise-requires c κs =
-    let a = c .before .before .before .before .before .before .before .args in
-    room-for (carried-next (a .o .raised) (a .d .receive) (now (a .queue))) (c .before .before .carry .ensures .number)
+    let a = c .before .before .before .before .before .before .before .before .args in
+    room-for (carried-next (a .o .raised) (a .d .receive) (now (a .queue)) (a .d .shared .site))
+    (c .before .before .carry .ensures .number)
 
 returns : tie.Need-returns
 returns c =
     let met = c .before .before .before .before .before .carry .ensures in
-    let a = c .before .before .before .before .before .before .before .before .before .before .args in
-    let next = built (carried-next (a .o .raised) (a .d .receive) (now (a .queue))) (met .number)
+    let a = c .before .before .before .before .before .before .before .before .before .before .before .args in
+    let next = built (carried-next (a .o .raised) (a .d .receive) (now (a .queue)) (a .d .shared .site)) (met .number)
     (c .before .before .after-raise .ensures) in
     let d = withSend (a .d) (a .o .send) in
     record {

@@ -19,24 +19,26 @@ returns c =
     rw (denied (c .before .receive-ready .ensures) (c .if1 .taken)) (record { answer = refl; queue-bytes = refl })
 
 carry-requires : tie.Need-carry-requires
-carry-requires c κs = said (c .before .before .before .before .before .before .receive-ready .ensures)
-    (c .before .before .before .before .before .if1 .left)
+carry-requires c κs = said (c .before .before .before .before .before .before .before .receive-ready .ensures)
+    (c .before .before .before .before .before .before .if1 .left)
 
 after-raise-requires : tie.Need-after-raise-requires
 after-raise-requires c κs =
-    let a = c .before .before .before .before .before .before .before .before .before .before .before .before .args in
-    room-for (carried-next _ (a .d .receive) (now (a .queue))) (c .before .before .carry .ensures .number)
+    let past = c .before .before .before .before .before .before .before in
+    let a = past .before .before .before .before .before .before .args in
+    room-for (carried-next _ (a .d .receive) (now (a .queue)) (a .d .shared .site))
+    (c .before .before .carry .ensures .number)
 
 returns-2 : tie.Need-returns-2
 unfolding taken
 returns-2 c =
-    let past = c .before .before .before .before .before .before .before .before .before in
+    let past = c .before .before .before .before .before .before .before .before .before .before in
     let o = past .take .result in
     let ready = said (past .before .before .receive-ready .ensures) (past .before .if1 .left) in
     let a = past .before .before .before .before .before .args in
     let l = lends (now (a .queue)) (now (a .send)) [] in
     let met = c .before .before .before .before .carry .ensures in
-    let next = built (carried-next (o .raised) (a .d .receive) (now (a .queue))) (met .number)
+    let next = built (carried-next (o .raised) (a .d .receive) (now (a .queue)) (a .d .shared .site)) (met .number)
     (c .before .after-raise .ensures) in
     let after = c .with-channels .ensures ∙ ap (withReceive (withSend (a .d) (o .send))) next in
     let other = take-raises (a .d .shared) (a .d .send) (a .tick) (now (a .send)) in

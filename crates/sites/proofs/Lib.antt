@@ -1,0 +1,4 @@
+pub mod Good
+pub mod RoundTrip
+pub mod Lengths
+pub mod Examples

@@ -1,0 +1,2 @@
+pub mod Sites
+pub mod Texts
