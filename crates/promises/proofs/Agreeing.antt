@@ -30,11 +30,11 @@ use Rattle.device.specs.Outcomes.{lends, Outcome, ends}
 use Rattle.recorder.specs.Outcomes.{met, noted}
 use Rattle.device.specs.declared.Device.{Device}
 use Rattle.model.specs.Said.{Said}
-use Rattle.model.specs.Inbox.{Kept, keeps, Inbox, recording, losing, Met, meets, arrival}
+use Rattle.model.specs.Inbox.{keeps, Inbox, recording, losing, Met, meets, arrival}
 use Rattle.model.specs.Outbox.{Outbox}
 use Rattle.model.specs.Box.{Box, box, Step, steps}
 use Rattle.model.specs.Box as Model
-use Rattle.promises.specs.Stands.{SoundEvent, keptBytes, Receives, Register, Sends, Stands, Says}
+use Rattle.promises.specs.Stands.{SoundEvent, SoundKept, keptBytes, Receives, Register, Sends, Stands, Says}
 use Rattle.promises.proofs.Holding.{all-snoc, holds-count, holds-more}
 use Rattle.promises.proofs.Sound.{stamped-sound}
 
@@ -114,7 +114,7 @@ module _ (r : Receive) (q : List ℕ) (b : Inbox) (h : Receives r q b) where
               (h .events) z
               (event-bytes-length (stamped e (b .pending)) (f .eight));
           sound =
-              all-snoc (λ (k : Kept). SoundEvent (k .event)) (b .queue) (keeps i (stamped e (b .pending)))
+              all-snoc SoundKept (b .queue) (keeps i (stamped e (b .pending)))
               (h .sound) s;
         },
       )

@@ -6,6 +6,7 @@ use mathlib.Core.List.{List, [], _∷_, _++_, map, map-append, append-nil}
 use mathlib.Core.Option.{Option, none, some}
 use lib.ListN.{length}
 use lib.Dec.{ltb, eqb}
+use Rattle.common.specs.All.{All}
 use Rattle.common.specs.Choice.{pick}
 use Rattle.common.proofs.Choices.{pick-is}
 use Rattle.filters.specs.EventMask.{maskLets, isMask}
@@ -30,11 +31,12 @@ use Rattle.model.specs.Outbox.{posts}
 use Rattle.model.specs.Box.{Box, box, Step, DeviceCall, raise, setMode, setFormat, setSite, noted, does, Call, onDevice}
 use Rattle.model.specs.Box.{onReceive, onSend, onAlign, step, fresh}
 use Rattle.model.specs.Box as Model
+use Rattle.model.proofs.Lasting.{step-any}
 use Rattle.promises.specs.Typed.{Typed, Made, asked, TypedSettings}
 use Rattle.promises.specs.Calls.{outcome}
 use Rattle.promises.specs.Runs.{Run, queuedEvents, waiting, readBy, readOut, answered, next, run, started}
-use Rattle.promises.specs.Stands.{Holds, keptBytes, Stands, RunStands, Says, Answered}
-use Rattle.promises.proofs.Holding.{holds-rest}
+use Rattle.promises.specs.Stands.{SoundKept, Holds, keptBytes, Stands, RunStands, Says, Answered}
+use Rattle.promises.proofs.Holding.{all-snoc, holds-rest}
 use Rattle.promises.proofs.Agreeing.{Agrees}
 use Rattle.promises.proofs.ReceiveCalls.{receive-agrees}
 use Rattle.promises.proofs.SendCalls.{send-agrees}
@@ -161,10 +163,29 @@ module _ (x : Made) (r : Run) (b : Box) (h : RunStands r b) where
   reads i (onSend y) s = not-read _ (noted-read (b .shared) i (posts y (b .shared) (b .outbox) .raises) (b .inbox))
   reads i (onAlign y) s = not-read _ refl
 
+  -- what is read was queued, and is sound
+  read-sound : (i room : ℕ) (y : Call) → All SoundKept (step i room y b .after .inbox .read)
+  read-sound i room y =
+      step-any i b (λ c. All SoundKept (c .read))
+      (record {
+        kept = h .sound;
+        recorded = λ e any free. h .sound;
+        lost = λ e any full. h .sound;
+        read = λ k rest q.
+            all-snoc SoundKept (b .inbox .read) k (h .sound) (subst (All SoundKept) q (h .stands .inbox .sound) .0);
+        filter = λ code mask. h .sound;
+        mask = λ mask. h .sound;
+      })
+      room y
+
   -- the run with one call more stands for the box after it
   pub next-stands : (i : ℕ) → RunStands (next x r) (step i (length (x .out)) (x .call) b .after)
   unfolding next
-  next-stands i = record { stands = agrees i .1; read = reads i (x .call) (agrees i .0) }
+  next-stands i = record {
+    stands = agrees i .1;
+    read = reads i (x .call) (agrees i .0);
+    sound = read-sound i (length (x .out)) (x .call);
+  }
 
   -- and the call says what the model says
   pub says-model : (i : ℕ) → Says (answered x r) (x .out) (step i (length (x .out)) (x .call) b .said)

@@ -7,30 +7,36 @@ use native.Mathlib.Omega.{arith}
 use lib.ListN.{length, length-map, take, drop}
 use Rattle.common.specs.All.{All}
 use Rattle.common.specs.Numbers.{among}
+use Rattle.common.proofs.All.{all-append}
 use Rattle.common.specs.Sublist.{Sublist}
 use Rattle.common.proofs.Sublists.{sublist-map}
 use Rattle.messages.specs.Records.{messageBytes}
 use Rattle.events.specs.Records.{stamped}
-use Rattle.events.proofs.RoundTrip.{lost-back, apart-lost}
+use Rattle.events.proofs.RoundTrip.{lost-back, apart-lost, site-part}
+use Rattle.sites.specs.Sites.{siteIn}
+use Rattle.sites.specs.declared.Site.{Site}
+use Rattle.sites.proofs.RoundTrip.{site-back}
+use Rattle.event_text.proofs.Good.{placed}
 use Rattle.settings.specs.Ranges.{goodShared}
 use Rattle.settings.specs.declared.Settings.{Settings}
 use Rattle.device.specs.Outcomes.{Lent}
 use Rattle.device.specs.Opening.{opened}
 use Rattle.model.specs.Inbox.{Kept, keeps, Inbox}
 use Rattle.model.specs.Outbox.{Outbox}
-use Rattle.model.specs.Box.{Box, fresh}
+use Rattle.model.specs.Box.{Box, fresh, Asked}
 use Rattle.model.specs.Box as Model
 use Rattle.model.specs.Listed.{usual}
-use Rattle.model.specs.Promised.{recorded, lostSum, apart, Within, withPlaces, messageOf}
+use Rattle.model.specs.Promised.{recorded, lostSum, siteBefore, Carries, apart, Within, withPlaces, messageOf}
 use Rattle.model.proofs.Lasting.{Lasting, run-keeps}
 use Rattle.model.proofs.Sum.{sum}
 use Rattle.model.proofs.Larger.{larger}
 use Rattle.model.proofs.Usual.{says-usual}
 use Rattle.model.proofs.Mail.{mailed}
+use Rattle.model.proofs.Sites.{sites-carried}
 use Rattle.promises.specs.Typed.{Word, Made, asked, TypedSettings}
 use Rattle.promises.specs.Runs.{Run, queuedEvents, waiting, recordedBytes, answered, run, started}
-use Rattle.promises.specs.Stands.{keptBytes, RunStands}
-use Rattle.promises.specs.Promised.{lostBytes, Entry, entries}
+use Rattle.promises.specs.Stands.{SoundKept, keptBytes, RunStands}
+use Rattle.promises.specs.Promised.{lostBytes, siteOf, Entry, entries}
 use Rattle.promises.proofs.Answers.{says-model, answers, waiting-bytes}
 use Rattle.promises.proofs.Holding.{all-snoc}
 
@@ -105,6 +111,30 @@ sum-of-bytes s l xs ty e bound =
     let lost-queued = ap lostBytes (h .stands .inbox .events .slots) ∙ lost-bytes (b .queue) (c .queue) in
     let waits = h .stands .inbox .pending in
     omega arith
+
+-- ---- the site of every event
+
+-- the sites in the bytes of sound events are the events' own
+sites-are : (asks : List Asked) (site : Site) (ks : List Kept) → All SoundKept ks → All (Carries asks site) ks
+    → map siteOf (map keptBytes ks) ≡ map (λ (k : Kept). siteBefore (k .place) asks site) ks
+sites-are asks site [] h c = refl
+sites-are asks site (k ∷ ks) h c =
+    let e = k .event in
+    let own = ap siteIn (site-part e (h .0 .eight)) ∙ site-back (e .site) (placed e (h .0 .whole)) ∙ c .0 in
+    λ i. own i ∷ sites-are asks site ks (h .1) (c .1) i
+
+-- THEOREM. After any calls from an opening that answers 0: in the bytes of every event recorded, read or queued,
+-- stands the site that was set last before the call that raised it
+pub sites-of-bytes : (s : Settings) (l : Lent) (xs : List Made) → TypedSettings s → opened s l .number ≡ 0
+    → map siteOf (recordedBytes (run xs (started s l)))
+    ≡ map (λ (k : Kept). siteBefore (k .place) (map asked xs) (s .site))
+    (recorded (Model.run 0 (map asked xs) (fresh s) .inbox))
+sites-of-bytes s l xs ty e =
+    let b = Model.run 0 (map asked xs) (fresh s) .inbox in
+    let h = answers s l xs ty e .1 in
+    ap (map siteOf) (recorded-bytes s l xs ty e)
+    ∙ sites-are (map asked xs) (s .site) (recorded b)
+    (all-append SoundKept (b .read) (b .queue) (h .sound) (h .stands .inbox .sound)) (sites-carried s (map asked xs) .1)
 
 -- ---- the larger queue
 

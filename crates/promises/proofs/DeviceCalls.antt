@@ -85,8 +85,10 @@ module _ (d : Device) (q t out : List ℕ) (i : ℕ) (b : Inbox) (o : Outbox) (h
       (agree-ways (goodShared s) out
       (λ z.
       notes (eventOf (s .site) 5 tick noMessage) i (ends 0 0 [] (withShared d s) l) out (says 0) (box s b o)
-      (event-sound (s .site) tick noMessage (site-in-range s z) ty refl 5 (omega arith) (unfold holdsFrame in refl))
-      (told (says 0) (withShared d s) q t out, record { possible = z; shared = refl; inbox = h .inbox; outbox = h .outbox }))
+      (event-sound (s .site) tick noMessage (site-in-range s z) ty refl 5 (omega arith) (unfold holdsFrame in refl)) (
+        told (says 0) (withShared d s) q t out,
+        record { possible = z; shared = refl; inbox = h .inbox; outbox = h .outbox },
+      ))
       (λ z. (told (says 1) d q t out, h)))
 
   -- another site: nothing is raised

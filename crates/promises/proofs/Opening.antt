@@ -108,4 +108,5 @@ opens s l ty e =
         };
       };
       read = refl;
+      sound = tt;
     })

@@ -5,6 +5,8 @@ use mathlib.Core.List.{List, [], _∷_, _++_}
 use lib.ListN.{length, take, drop}
 use lib.Seq.{slice}
 use Rattle.common.specs.Numbers.{numberOf}
+use Rattle.sites.specs.Sites.{siteIn}
+use Rattle.sites.specs.declared.Site.{Site}
 use Rattle.messages.specs.Records.{messageSize}
 use Rattle.device.specs.Outcomes.{Lent, Outcome}
 use Rattle.device.specs.declared.Device.{Device}
@@ -22,6 +24,10 @@ lostIn b = numberOf (slice 12 16 b)
 abbrev pub lostBytes : List (List ℕ) → ℕ
 lostBytes [] = 0
 lostBytes (b ∷ bs) = lostIn b + lostBytes bs
+
+-- the site in an event's bytes, 32 to 39
+abbrev pub siteOf : List ℕ → Site
+siteOf b = siteIn (drop 32 b)
 
 -- an event's place and its bytes apart from its lost count
 pub record Entry : Type 0 where

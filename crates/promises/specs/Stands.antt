@@ -46,6 +46,10 @@ pub record SoundEvent (e : Event) : Type 0 where
   pub eight : length (e .bytes) ≡ 8
   pub whole : goodEvent e ≡ true
 
+-- an event of the model that its bytes say
+abbrev pub SoundKept : Kept → Type 0
+SoundKept k = SoundEvent (k .event)
+
 -- a message that its bytes say: good, with eight data bytes
 pub record SoundMessage (m : Message) : Type 0 where
   pub eight : length (m .bytes) ≡ 8
@@ -67,7 +71,7 @@ pub record Receives (r : Receive) (q : List ℕ) (b : Inbox) : Type 0 where
   pub pending : r .pending ≡ b .pending
   pub word : Word (b .pending)
   pub events : Holds keptBytes eventSize queueLimit (r .ring) q (b .queue)
-  pub sound : All (λ (k : Kept). SoundEvent (k .event)) (b .queue)
+  pub sound : All SoundKept (b .queue)
 
 -- the register: held or not, and what stands in it; zeros where it is empty
 abbrev pub Register : Bool → Message → Option Message → Type 0
@@ -91,10 +95,11 @@ pub record Stands (d : Device) (q t : List ℕ) (b : Box) : Type 0 where
   pub inbox : Receives (d .receive) q (b .inbox)
   pub outbox : Sends (d .send) t (b .outbox)
 
--- a run stands for a box, and has handed out the bytes of the events that the model has read
+-- a run stands for a box, and has handed out the bytes of the events that the model has read, all of them sound
 pub record RunStands (r : Run) (b : Box) : Type 0 where
   pub stands : Stands (r .device) (r .queue) (r .send) b
   pub read : r .read ≡ map keptBytes (b .inbox .read)
+  pub sound : All SoundKept (b .inbox .read)
 
 -- the outcome o, over the output buffer `out`, says what the model says: number, value, bytes, and the whole buffer
 pub record Says (o : Outcome) (out : List ℕ) (a : Said) : Type 0 where
