@@ -186,6 +186,11 @@ pub fn print_message_record(state: &[u8], record: &[u8], out: &mut [u8], length:
     unsafe { sv_print_message_record(s, state.len(), r, record.len(), o, out.len(), length) }
 }
 
+pub fn print_event_record(state: &[u8], record: &[u8], out: &mut [u8], length: &mut usize) -> u32 {
+    let (s, r, o) = (state.as_ptr(), record.as_ptr(), out.as_mut_ptr());
+    unsafe { sv_print_event_record(s, state.len(), r, record.len(), o, out.len(), length) }
+}
+
 fn array<const N: usize>(bytes: &[u8]) -> &[u8; N] {
     bytes.try_into().expect("the call's own length")
 }

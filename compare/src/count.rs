@@ -6,7 +6,7 @@ use std::env;
 use std::process::Command;
 
 /// What is counted: its name, the function, and the row that calls it.
-const COUNTED: [(&str, &str, Row); 10] = [
+const COUNTED: [(&str, &str, Row); 12] = [
     ("raise, open filter", "raise", RAISE),
     ("raise, strict filter", "raise", RAISE_STRICT),
     ("raise of code 9", "raise", Row::Raise { code: 9, strict: false, full: false }),
@@ -17,6 +17,8 @@ const COUNTED: [(&str, &str, Row); 10] = [
     ("take", "take", Row::TakeDone),
     ("done", "done", Row::TakeDone),
     ("print_message_record", "print_message_record", Row::PrintMessageRecord),
+    ("print_event_record", "print_event_record", Row::PrintEventRecord { codes: &[1] }),
+    ("print event, code 9", "print_event_record", Row::PrintEventRecord { codes: &[9] }),
 ];
 /// What stands before a function's name on each side.
 const SIDES: [&str; 2] = ["sv_", "compare::measured::plain::"];

@@ -18,7 +18,7 @@ pub const MIXED: Texts =
 /// Two hours east and a second of ten digits, so that lines have their usual length.
 const SITE: Site = Site { offset: 120, second: 1_700_000_000 };
 
-/// A call; with a raise the filter and the queue that it finds.
+/// A call; with a raise the filter and the queue that it finds, with a printed event the codes in turn.
 #[derive(Clone, Copy)]
 pub enum Row {
     Raise { code: u32, strict: bool, full: bool },
@@ -27,12 +27,21 @@ pub enum Row {
     SendText,
     TakeDone,
     PrintMessageRecord,
+    PrintEventRecord { codes: &'static [u32] },
 }
 
 pub const RAISE: Row = Row::Raise { code: 1, strict: false, full: false };
 pub const RAISE_STRICT: Row = Row::Raise { code: 1, strict: true, full: false };
 
 impl Row {
+    /// The codes of the events in the queue, in turn.
+    fn codes(self) -> &'static [u32] {
+        match self {
+            Row::PrintEventRecord { codes } => codes,
+            _ => &[1],
+        }
+    }
+
     /// Half full, so that a raise and a send find room; a read and a take find an entry; a lost raise finds no room.
     fn fillings(self, slots: u32, places: u32) -> (u32, u32) {
         match self {
@@ -95,8 +104,8 @@ impl Beds {
         let mut state = vec![0; STATE];
         board::open(&mut state, &settings, &queue, &send);
         let (_, mut device) = Device::open(&settings, &queue, &send);
-        for tick in 0..slots {
-            device.raise(1, 1_000_000 + tick, &frame, &mut queue);
+        for (tick, &code) in (0..slots).zip(row.codes().iter().cycle()) {
+            device.raise(code, 1_000_000 + tick, &frame, &mut queue);
         }
         for place in 0..places as usize {
             device.send_text(texts[place % 4], &mut send);
@@ -114,6 +123,11 @@ impl Beds {
 
 fn answered(number: u32, expected: u32) {
     assert_eq!(black_box(number), expected, "the measured call's answer");
+}
+
+/// The record in a slot of the event table.
+fn slot(queue: &[u8], place: u32) -> &[u8] {
+    &queue[EVENT_BYTES * place as usize..][..EVENT_BYTES]
 }
 
 fn raised(number: u32, full: bool) {
@@ -144,6 +158,9 @@ fn board_turn(bed: &mut Bed<Vec<u8>>, given: Given) -> Turn<'_> {
                 Row::PrintMessageRecord => {
                     answered(board::print_message_record(state, &send[..MESSAGE_BYTES], &mut line, &mut size), 0)
                 }
+                Row::PrintEventRecord { .. } => {
+                    answered(board::print_event_record(state, slot(queue, at % slots), &mut line, &mut size), 0)
+                }
             }
             black_box((&out, &record, &line, size));
         }
@@ -171,6 +188,9 @@ fn second_turn(bed: &mut Bed<Box<Device>>, given: Given) -> Turn<'_> {
                 }
                 Row::PrintMessageRecord => {
                     answered(plain::print_message_record(device, &send[..MESSAGE_BYTES], &mut line, &mut size), 0)
+                }
+                Row::PrintEventRecord { .. } => {
+                    answered(plain::print_event_record(device, slot(queue, at % slots), &mut line, &mut size), 0)
                 }
             }
             black_box((&out, &record, &line, size));
@@ -228,6 +248,13 @@ mod plain {
     #[inline(never)]
     pub fn print_message_record(device: &Device, record: &[u8], out: &mut [u8], length: &mut usize) -> u32 {
         let (number, line) = device.print_message_record(record, out);
+        *length = line;
+        number
+    }
+
+    #[inline(never)]
+    pub fn print_event_record(device: &Device, record: &[u8], out: &mut [u8], length: &mut usize) -> u32 {
+        let (number, line) = device.print_event_record(record, out);
         *length = line;
         number
     }

@@ -16,13 +16,14 @@ use std::time::Instant;
 const CAPACITIES: [(u32, u32); 3] = [(1, 1), (200, 200), (LARGEST_QUEUE, LARGEST_SEND_BUFFER)];
 
 /// What is measured, by name.
-const ROWS: [(&str, Row); 7] = [
+const ROWS: [(&str, Row); 8] = [
     ("raise", RAISE),
     ("read_record", Row::ReadRecord),
     ("read_text", Row::ReadText),
     ("send_text", Row::SendText),
     ("take+done", Row::TakeDone),
     ("print_message_record", Row::PrintMessageRecord),
+    ("print_event_record", Row::PrintEventRecord { codes: &[1, 2, 3, 4, 5, 6, 7, 8, 9, 10, 11] }),
     ("raise, strict filter", RAISE_STRICT),
 ];
 

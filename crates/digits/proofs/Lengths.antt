@@ -37,6 +37,18 @@ digits-le (suc m) (suc k) n h =
 pub decimal-le : (k n : ℕ) → n < 10 ^ suc k → length (decimal n) ≤ suc k
 decimal-le k n h = digits-le 20 k n h
 
+cut-le : (m n : ℕ) → length (decimalIn m n) ≤ m
+unfolding decimalIn
+cut-le zero n = omega arith
+cut-le (suc m) n =
+    by-cases (decLt n 10)
+    (λ l. rw (in-small m n l) (omega arith))
+    (λ l. omega (arith, large-length m n (omega arith), cut-le m (n / 10)))
+
+-- whatever the number, no more than twenty digits are shown
+pub decimal-cut-le : (n : ℕ) → length (decimal n) ≤ 20
+decimal-cut-le n = cut-le 20 n
+
 -- a 32-bit number has at most ten digits
 pub decimal-length-le : (n : ℕ) → n < 2 ^ 32 → length (decimal n) ≤ 10
 decimal-length-le n h = decimal-le 9 n (omega arith)

@@ -1,4 +1,3 @@
-pub mod CodeWords
 pub mod Good
 pub mod Length
 pub mod Printed

@@ -38,7 +38,7 @@ use Rattle.settings.specs.TxMode.{goodTx}
 use Rattle.numbers.specs.Numbers.{numbersFrom, beforeEnd, endRun}
 use Rattle.message_text.specs.Reading.{allBytes, judgedData, judged, readMessage}
 use Rattle.message_text.specs.Printing.{messageRoom, messageText, messageLine, messageRefusal}
-use Rattle.event_text.specs.Words.{wordOf}
+use Rattle.event_words.specs.Words.{wordOf}
 use Rattle.event_text.specs.Lines.{frameText, eventText, eventLine}
 use Rattle.device.specs.State.{good}
 use Rattle.sites.specs.Sites.{noSite, goodOffset, goodSite, siteBytes, siteIn, isSite}
