@@ -1,6 +1,6 @@
 -- What one step of each writer leaves to write.
 use Prim.Native.Nat.{ℕ, zero, suc, _+_, _-_, _*_, _/_, _%_, _^_, _≤_, _<_}
-use mathlib.Core.Path.{_≡_, refl, sym, _∙_}
+use mathlib.Core.Path.{_≡_, refl, sym, ap, _∙_}
 use mathlib.Core.List.{List, _∷_}
 use native.Mathlib.Numerals.{add-one}
 use native.Mathlib.Omega.{arith}
@@ -8,9 +8,9 @@ use lib.ListN.{length, getD, take, drop, set, length-take, drop-of-length-le}
 use lib.Seq.{sets, drop-cons, getD-take, length-take-le}
 use Rattle.digits.specs.Digits.{hexDigit, hex, decimal, fields}
 use Rattle.digits.specs.Written.{Put}
-use Rattle.digits.proofs.Written.{sets-append, then, one}
+use Rattle.digits.proofs.Written.{sets-append, last-first}
 use Rattle.digits.proofs.Lengths.{hex-length, fields-length}
-use Rattle.digits.proofs.Decimal.{decimal-large}
+use Rattle.digits.proofs.Decimal.{lows, lows-length, decimal-lows}
 
 -- a shift by 4 k bits divides by 16 to the k
 pub pow16 : (k : ℕ) → 2 ^ (4 * k) ≡ 16 ^ k
@@ -50,10 +50,29 @@ text-done {o} {out} {a} text i e f z =
     let q : i ≡ length text = omega arith in
     record { bytes = sym (e ∙ rw (drop-of-length-le text z)); place = rw q }
 
--- the last digit of a decimal number behind the others
-pub decimal-last : {o m : List ℕ} {a p : ℕ} (n : ℕ) → 10 ≤ n → n < 2 ^ 64 → Put o a (decimal (n / 10)) m p
-    → Put o a (decimal n) (set m p (48 + n % 10)) (p + 1)
-decimal-last {o} {m} {a} {p} n l h s = rw (decimal-large n l h) (then s (one m p (48 + n % 10)))
+-- all digits of a decimal number are left
+pub lows-starts : (out : List ℕ) (at n w : ℕ) → w ≡ length (decimal n)
+    → sets out at (decimal n) ≡ sets out at (lows (at + w - at) n)
+lows-starts out at n w h =
+    let e : at + w - at ≡ length (decimal n) = omega arith in
+    ap (sets out at) (decimal-lows n ∙ ap (λ k. lows k n) (sym e))
+
+-- the last digit of those that are left
+pub lows-step : (n : ℕ) (out : List ℕ) (at i : ℕ) → at < i
+    → sets out at (lows (i - at) n) ≡ sets (set out (i - 1) (48 + n % 10)) at (lows (i - 1 - at) (n / 10))
+unfolding lows
+lows-step n out at i p =
+    let e : i - at ≡ suc (i - 1 - at) = omega arith in
+    let f : at + (i - 1 - at) ≡ i - 1 = omega arith in
+    rw (e, last-first out at (lows (i - 1 - at) (n / 10)) (48 + n % 10), lows-length (i - 1 - at) (n / 10), f)
+
+-- no digit is left
+pub lows-done : {o out : List ℕ} {a i w : ℕ} (n m : ℕ) → sets o a (decimal n) ≡ sets out a (lows (i - a) m) → i ≤ a
+    → w ≡ length (decimal n) → Put o a (decimal n) out (a + w)
+unfolding lows
+lows-done {o} {out} {a} {i} {w} n m e z f =
+    let y : i - a ≡ 0 = omega arith in
+    record { bytes = sym (e ∙ rw y); place = rw f }
 
 -- one byte of the data
 pub fields-step :

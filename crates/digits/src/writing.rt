@@ -38,18 +38,33 @@ pub fn put_hex(out: &mut [u8], at: usize, n: u32, w: u32) -> usize
     i
 }
 
-// A number in decimal, without leading zeros.
+// How many digits a number has in decimal.
+fn digits_in(n: u64) -> usize
+    ensures { λ r. ⌜ r ≡ length (decimal n) ⌝ }
+{
+    let mut rest = n;
+    let mut w: usize = 1;
+    while 10 <= rest {
+        rest = rest / 10;
+        w += 1;
+    }
+    w
+}
+
+// A number in decimal, without leading zeros: its last digit first.
 pub fn put_decimal(out: &mut [u8], at: usize, n: u64) -> usize
     requires { ⌜ at + length (decimal n) ≤ length (now out) ⌝ }
     ensures { λ r. ⌜ Put (now (out .entry)) at (decimal n) (now (out .exit)) r ⌝ }
 {
-    if n < 10 {
-        out[at] = 48 + (n as u8);
-        return at + 1;
+    let end = at + digits_in(n);
+    let mut i = end;
+    let mut rest = n;
+    while at < i {
+        i -= 1;
+        out[i] = 48 + ((rest % 10) as u8);
+        rest = rest / 10;
     }
-    let last = put_decimal(out, at, n / 10);
-    out[last] = 48 + ((n % 10) as u8);
-    last + 1
+    end
 }
 
 // A text as it is.
