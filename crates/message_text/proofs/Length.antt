@@ -29,7 +29,10 @@ message-line-le align m = message-text-le (shownId align (m .header)) (m .header
 -- an extended frame that carries eight bytes
 abbrev pub longest : Message
 longest =
-    record { header = record { id = 0x1FFFFFFF; format = 2; rtr = 0; dlc = 15 }; bytes = 1 ∷ 2 ∷ 3 ∷ 4 ∷ 5 ∷ 6 ∷ 7 ∷ 8 ∷ [] }
+    record {
+      header = record { id = 0x1FFFFFFF; format = 2; rtr = 0; dlc = 15 };
+      bytes = 1 ∷ 2 ∷ 3 ∷ 4 ∷ 5 ∷ 6 ∷ 7 ∷ 8 ∷ [];
+    }
 
 -- a line of 37 bytes
 pub message-line-reached : length (messageLine 0 longest) ≡ messageRoom

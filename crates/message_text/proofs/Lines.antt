@@ -17,7 +17,11 @@ pub record Row : Type 0 where
 
 abbrev row : String → ℕ → (id format rtr dlc : ℕ) → List ℕ → Row
 row t a id format rtr dlc b =
-    record { text = t; align = a; message = record { header = record { id = id; format = format; rtr = rtr; dlc = dlc }; bytes = b } }
+    record {
+      text = t;
+      align = a;
+      message = record { header = record { id = id; format = format; rtr = rtr; dlc = dlc }; bytes = b };
+    }
 
 abbrev pub rows : List Row
 rows =

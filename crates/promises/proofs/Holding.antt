@@ -63,7 +63,11 @@ module _ {A : Type 0} (bytes : A → List ℕ) (w limit : ℕ) (r : Ring) (t : L
       let fits : w * r .capacity ≤ length t = leb-true (w * r .capacity) (length t) (h .long) in
       let e = sym (held-rest w limit r t f fits (omega (arith, holds-count (x ∷ xs) h))) ∙ h .slots in (
         ap foremost e,
-        record { numbers = facts-good limit (withoutOldest r) (facts-rest limit r f); long = h .long; slots = ap (drop 1) e },
+        record {
+          numbers = facts-good limit (withoutOldest r) (facts-rest limit r f);
+          long = h .long;
+          slots = ap (drop 1) e;
+        },
       )
 
   -- a purge leaves none

@@ -115,7 +115,14 @@ warning tick w = record {
   typed = (
     omega arith,
     w,
-    record { id = omega arith; format = omega arith; rtr = omega arith; dlc = omega arith; eight = refl; bytes = zeros-bytes 8 },
+    record {
+      id = omega arith;
+      format = omega arith;
+      rtr = omega arith;
+      dlc = omega arith;
+      eight = refl;
+      bytes = zeros-bytes 8;
+    },
   );
 }
 
@@ -205,7 +212,14 @@ received = record {
   typed = (
     omega arith,
     omega arith,
-    record { id = omega arith; format = omega arith; rtr = omega arith; dlc = omega arith; eight = refl; bytes = zeros-bytes 8 },
+    record {
+      id = omega arith;
+      format = omega arith;
+      rtr = omega arith;
+      dlc = omega arith;
+      eight = refl;
+      bytes = zeros-bytes 8;
+    },
   );
 }
 

@@ -10,7 +10,7 @@ use Rattle.device.specs.declared.Answer.{Answer}
 use Rattle.recorder.specs.declared.Taken.{Taken}
 use Rattle.digits.specs.declared.Printed.{Printed}
 
--- open, set_filter, set_event_mask, read_record, look_number, identifiers_through
+-- open, set_filter, set_event_mask, set_site, read_record, look_number, identifiers_through
 pub alike : {A : Type 0} {def r s : A} → r ≡ def → s ≡ def → r ≡ s
 alike p q = p ∙ sym q
 

@@ -28,7 +28,8 @@ put-bytes-requires c κs =
 
 put-byte-requires : tie.Need-put-byte-requires
 put-byte-requires c κs =
-    let k = c .before .before .before .before .before .before .before .before .before .before .before .before .before .before .before .before .before in
+    let f = c .before .before .before .before .before .before .before .before in
+    let k = f .before .before .before .before .before .before .before .before .before in
     let n = k .carried-by .result in
     let s = k .before .before .args in
     let d = fields-length 32 (take n (s .b)) in
