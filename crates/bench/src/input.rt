@@ -4,7 +4,7 @@ ghost use Rattle.std.specs.Prelude.{◌≤◌, length};
 use libc::STDIN_FILENO;
 
 // How many bytes were read, and whether a read failed before the input's end.
-#[derive(Drop)]
+#[derive(Clone, Copy)]
 pub struct Input {
     pub length: usize,
     pub failed: bool,

@@ -1,4 +1,6 @@
 // Sends each message text of standard input in turn and prints the message's 16 bytes, or the refusal and bytes used.
+#![tactic(auto)]
+
 mod input;
 mod page;
 mod sending;

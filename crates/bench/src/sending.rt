@@ -7,7 +7,7 @@ use settings::Settings;
 use show::Line;
 
 // The line of a text, the bytes used, and the device with its send buffer emptied.
-#[derive(Drop)]
+#[derive(Clone, Copy)]
 pub struct Step {
     pub line: Line,
     pub used: usize,

@@ -1,11 +1,13 @@
 // A send channel: what it keeps, possible or not; how it changes.
+#![tactic(auto)]
+
 pub mod channel;
 
 use common::Ring;
 use messages::Message;
 
 // A send channel: TxMode, its ring of messages, and the register, which holds a message or none.
-#[derive(Drop)]
+#[derive(Clone, Copy)]
 pub struct Send {
     pub tx: u32,
     pub ring: Ring,

@@ -16,7 +16,7 @@ module _ {A : Type 0} where
   -- a sublist of a sublist
   pub sublist_trans : {xs ys zs : List A} → Sublist xs ys → Sublist ys zs → Sublist xs zs
   sublist_trans p none = p
-  sublist_trans (keep p) (keep q) = keep (sublist_trans p q)
+  sublist_trans (keep {xs = xs} p) (keep q) = keep (sublist_trans {xs = xs} p q)
   sublist_trans (skip p) (keep q) = skip (sublist_trans p q)
   sublist_trans p (skip q) = skip (sublist_trans p q)
 

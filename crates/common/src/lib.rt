@@ -1,4 +1,6 @@
 // What several layers share: rings of slots, the number that four bytes stand for, and a copy of bytes.
+#![tactic(auto)]
+
 pub mod rings;
 
 ghost use Rattle.std.specs.Prelude.{◌≡◌, [], ◌∷◌, ◌++◌, ◌+◌, ◌≤◌, length, take, drop};
@@ -6,7 +8,7 @@ ghost use Rattle.std.proofs.Math.Seq.{slice};
 ghost use Rattle.common.specs.Numbers.{number_of};
 
 // A ring of slots in a lent table: the oldest of `count` is in slot `first`.
-#[derive(Drop)]
+#[derive(Clone, Copy)]
 pub struct Ring {
     pub capacity: u32,
     pub first: u32,

@@ -1,4 +1,6 @@
 // One CAN device: its settings, its receive channel and its send channel, possible or not; opening one.
+#![tactic(auto)]
+
 pub mod opening;
 pub mod state;
 
@@ -7,7 +9,7 @@ use queue::Receive;
 use settings::Shared;
 
 // The whole state of a device, by value.
-#[derive(Drop)]
+#[derive(Clone, Copy)]
 pub struct Device {
     pub shared: Shared,
     pub receive: Receive,
@@ -15,7 +17,7 @@ pub struct Device {
 }
 
 // The paper's number, its value (a length, the bytes used, how many were purged) and the device after the call.
-#[derive(Drop)]
+#[derive(Clone, Copy)]
 pub struct Answer {
     pub number: u32,
     pub value: usize,

@@ -1,3 +1,5 @@
 // Event text, printed.
+#![tactic(auto)]
+
 mod fields;
 pub mod printing;

@@ -16,7 +16,7 @@ use Rattle.common.proofs.Choices.{by_test}
 use Rattle.ids.specs.Ids.{bit, id_bits, id_low}
 use Rattle.filters.specs.Filters.{is_filter, filter_low, free, field_meets, free_bits}
 use Rattle.filters.specs.declared.Filter.{Filter}
-use Rattle.ids.proofs.Bits.{Bit, off, on, is_bit, bit_is, bit_and, bit_xor, bit_shr, bit_ones, zero_suc, ones_suc}
+use Rattle.ids.proofs.Bits.{Bit, off, on, is_bit, bit_is, bit-bit_and, bit-bit_xor, bit_shr, bit_ones, zero_suc, ones_suc}
 use Rattle.ids.proofs.Columns.{InWord, pick_le, in_word, bits_le}
 
 -- ---- where the fields lie
@@ -49,7 +49,7 @@ abbrev pub Same : ℕ → ℕ → ℕ → Type 0
 Same mask v r = (k : ℕ) → k < 32 → bit r k ≡ pick (eqb (bit mask k) v) 1 0
 
 pub same_flipped : (mask v : ℕ) → v ≡ 0 → Same mask v (bit_xor mask 4294967295)
-same_flipped mask v e k h = rw e (bit_xor mask 4294967295 k ∙ ap (differ (bit mask k)) (bit_ones 32 k h)
+same_flipped mask v e k h = rw e (bit-bit_xor mask 4294967295 k ∙ ap (differ (bit mask k)) (bit_ones 32 k h)
     ∙ flip (bit_is mask k))
   where
     flip : {b : ℕ} → Bit b → differ b 1 ≡ pick (eqb b 0) 1 0
@@ -77,8 +77,8 @@ clash_bit : (q : Filter) (low v must k : ℕ) → Same q.mask q.active must → 
 unfolding free
 clash_bit q low v must k same h =
     ap (λ (n : ℕ). eqb n 0)
-    (bit_and (bit_xor v (q.code / 2 ^ low)) (must / 2 ^ low) k
-    ∙ ap₂ min (bit_xor v (q.code / 2 ^ low) k ∙ ap (differ (bit v k)) (bit_shr q.code low k))
+    (bit-bit_and (bit_xor v (q.code / 2 ^ low)) (must / 2 ^ low) k
+    ∙ ap₂ min (bit-bit_xor v (q.code / 2 ^ low) k ∙ ap (differ (bit v k)) (bit_shr q.code low k))
     (bit_shr must low k ∙ same (low + k) h))
     ∙ by (eqb (bit q.mask (low + k)) q.active) (bit_is v k) (bit_is q.code (low + k))
   where

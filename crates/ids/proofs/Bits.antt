@@ -35,11 +35,11 @@ bit_op : (op f : ℕ → ℕ → ℕ) → ((a b k : ℕ) → op a b / 2 ^ k ≡ 
 bit_op op f shr step x y k h =
     ap (λ (n : ℕ). n % 2) (shr x y k ∙ step (x / 2 ^ k) (y / 2 ^ k)) ∙ digits_mod (op (x / 2 ^ k / 2) (y / 2 ^ k / 2)) h
 
-pub bit_and : (x y k : ℕ) → bit (bit_and x y) k ≡ min (bit x k) (bit y k)
-bit_and x y k = bit_op bit_and min and_shr and_step x y k (omega arith)
+pub bit-bit_and : (x y k : ℕ) → bit (bit_and x y) k ≡ min (bit x k) (bit y k)
+bit-bit_and x y k = bit_op bit_and min and_shr and_step x y k (omega arith)
 
-pub bit_xor : (x y k : ℕ) → bit (bit_xor x y) k ≡ differ (bit x k) (bit y k)
-bit_xor x y k = bit_op bit_xor differ xor_shr xor_step x y k (small (bit_is x k) (bit_is y k))
+pub bit-bit_xor : (x y k : ℕ) → bit (bit_xor x y) k ≡ differ (bit x k) (bit y k)
+bit-bit_xor x y k = bit_op bit_xor differ xor_shr xor_step x y k (small (bit_is x k) (bit_is y k))
   where
     small : {a b : ℕ} → Bit a → Bit b → differ a b < 2
     small off off = omega arith

@@ -1,9 +1,11 @@
 // Identifiers under an Align, and a frame's header.
+#![tactic(auto)]
+
 pub mod align;
 pub mod frame;
 
 // A frame's header: its data bytes stand beside it. Any numbers; `frame::header_refusal` judges them.
-#[derive(Drop)]
+#[derive(Clone, Copy)]
 pub struct Header {
     pub id: u32,
     pub format: u32,
@@ -12,7 +14,7 @@ pub struct Header {
 }
 
 // An identifier carried over to the other form, or a bad one.
-#[derive(Drop)]
+#[derive(Clone, Copy)]
 pub enum Id {
     Good(u32),
     Bad,

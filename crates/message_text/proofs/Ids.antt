@@ -1,7 +1,7 @@
 -- Identifiers of any size under an Align: no field reaches past 32 bits.
 use Prim.Native.Nat.{ℕ, ◌+◌, ◌/◌, ◌%◌, ◌^◌, ◌≤◌, ◌<◌}
 use mathlib.Core.Path.{◌≡◌, refl, sym, ◌∙◌}
-use mathlib.Core.Bool.{Bool, true, false, ◌&&◌, and_false}
+use mathlib.Core.Bool.{Bool, true, false, ◌&&◌, and-false}
 use native.Mathlib.Nat.{le_trans}
 use native.Mathlib.Omega.{arith}
 use borrow.Author.Tests.{le-ltb, ltb-true}
@@ -24,7 +24,7 @@ raw_large align f v h =
     let fits : w + low ≤ 32 = omega (arith, id_in_word f align low w refl refl) in
     let large : 2 ^ w ≤ v / 2 ^ low =
     rw (pow-add 2 w low, shl-shr (2 ^ w) low) at (shr_mono low (le_trans (pow_mono fits) h)) in
-    rw (le-ltb (v / 2 ^ low) (2 ^ w) large, and_false)
+    rw (le-ltb (v / 2 ^ low) (2 ^ w) large, and-false)
 
 -- so a capped number is the identifier that the number itself is
 pub raw_capped : (align f v : ℕ) → raw_of align f (capped v) ≡ raw_of align f v

@@ -2,7 +2,7 @@
 use Prim.Native.Nat.{ℕ}
 use mathlib.Core.Path.{◌≡◌, refl}
 use mathlib.Core.List.{List}
-use mathlib.Core.Bool.{Bool, true, ◌||◌, or_true}
+use mathlib.Core.Bool.{Bool, true, ◌||◌, or-true}
 use lib.Dec.{eqb}
 use lib.ListN.{replicate}
 use Rattle.message_text.specs.Reading.{read_message, parsed_number}
@@ -18,7 +18,7 @@ listed n = eqb n 0 || eqb n 6 || is_refusal n
 pub number_listed : (align format : ℕ) (text : List ℕ)
     → listed (parsed_number (read_message align format text).answer) ≡ true
 number_listed align format text =
-    read_is (λ s. listed (parsed_number s.answer) ≡ true) align format text refl (λ number l. rw (l, or_true))
+    read_is (λ s. listed (parsed_number s.answer) ≡ true) align format text refl (λ number l. rw (l, or-true))
     (λ t. refl)
 
 -- a refused reading has zeros for data bytes

@@ -1,15 +1,17 @@
 // The numbers of a message text, and its ends.
+#![tactic(auto)]
+
 pub mod scanning;
 
 // The first eleven numbers of a text, each at most 2 ^ 32, and how many there are, at most 12.
-#[derive(Drop)]
+#[derive(Clone, Copy)]
 pub struct Kept {
     pub count: usize,
     pub at: [u64; 11],
 }
 
 // The numbers kept, and where the scan stopped: no end stands before.
-#[derive(Drop)]
+#[derive(Clone, Copy)]
 pub struct Scanned {
     pub kept: Kept,
     pub stop: usize,

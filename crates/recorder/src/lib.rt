@@ -1,4 +1,6 @@
 // Every public call on an open device.
+#![tactic(auto)]
+
 pub mod changes;
 pub mod printing;
 pub mod receiving;
@@ -10,7 +12,7 @@ use events::records::EVENT;
 use messages::records::MESSAGE;
 
 // The answer of a read: the event's bytes.
-#[derive(Drop)]
+#[derive(Clone, Copy)]
 pub struct Record {
     pub number: u32,
     pub bytes: [u8; EVENT],
@@ -18,7 +20,7 @@ pub struct Record {
 }
 
 // The answer of a take: the message's bytes.
-#[derive(Drop)]
+#[derive(Clone, Copy)]
 pub struct Taken {
     pub number: u32,
     pub bytes: [u8; MESSAGE],
@@ -26,7 +28,7 @@ pub struct Taken {
 }
 
 // The paper's number and how many identifiers a filter lets through.
-#[derive(Drop)]
+#[derive(Clone, Copy)]
 pub struct Through {
     pub number: u32,
     pub count: u32,

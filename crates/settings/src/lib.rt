@@ -1,4 +1,6 @@
 // What opening is given, what all channels share, in range or not, and what the settings say of a message.
+#![tactic(auto)]
+
 pub mod binary;
 pub mod given;
 pub mod ranges;
@@ -8,7 +10,7 @@ use messages::Message;
 use sites::Site;
 
 // What all channels of a device share.
-#[derive(Drop)]
+#[derive(Clone, Copy)]
 pub struct Shared {
     pub mode: u32,
     pub format: u32,
@@ -18,7 +20,7 @@ pub struct Shared {
 
 // What opening is given: MaskActive is `active`, the event mask `events`, TxMode `tx`; `queue` and `buffer` are the
 // capacities.
-#[derive(Drop)]
+#[derive(Clone, Copy)]
 pub struct Settings {
     pub mode: u32,
     pub format: u32,
@@ -34,7 +36,7 @@ pub struct Settings {
 }
 
 // A message that a call brings as binary: 0 and the message to store, or the refusal's number and zeros.
-#[derive(Drop)]
+#[derive(Clone, Copy)]
 pub struct Brought {
     pub number: u32,
     pub message: Message,

@@ -1,4 +1,6 @@
 // The bench sheet, case by case through the public calls: the paper's words, then what was computed.
+#![tactic(auto)]
+
 mod event_line;
 mod identifiers;
 mod message_texts;

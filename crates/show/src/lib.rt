@@ -1,4 +1,6 @@
 // What the programs show: lines of 32 digits or of a refusal, and words and numbers on standard output.
+#![tactic(auto)]
+
 pub mod words;
 
 ghost use Rattle.std.specs.Prelude.{◌≡◌};
@@ -8,7 +10,7 @@ use digits::writing;
 use libc::STDOUT_FILENO;
 
 // A line, with zeros behind its length.
-#[derive(Drop)]
+#[derive(Clone, Copy)]
 pub struct Line {
     pub bytes: [u8; 40],
     pub length: usize,

@@ -1,7 +1,7 @@
 -- What it says of a site's two numbers that they are in range.
 use Prim.Native.Nat.{ℕ, ◌-◌, ◌^◌, ◌≤◌, ◌<◌}
 use mathlib.Core.Path.{◌≡◌, refl}
-use mathlib.Core.Bool.{true, and_true}
+use mathlib.Core.Bool.{true, and-true}
 use native.Mathlib.Omega.{arith}
 use lib.Dec.{ltb, leb}
 use borrow.Author.Tests.{lt-ltb, le-leb, lt-leb, ltb-true, leb-true}
@@ -24,7 +24,7 @@ good_offset_lem n h east west =
 -- the code's second test
 pub past_east : (n : ℕ) → 840 < n → n < 2 ^ 32 → good_offset n ≡ leb 4294966576 n
 unfolding good_offset
-past_east n h l = rw (lt-leb n 840 h, lt-ltb n 4294967296 l) (and_true (leb 4294966576 n))
+past_east n h l = rw (lt-leb n 840 h, lt-ltb n 4294967296 l) (and-true (leb 4294966576 n))
 
 -- both numbers of a good site are in range
 pub good_site_lem : (s : Site) → good_site s ≡ true → (good_offset s.offset ≡ true) × (s.second ≤ last_second)

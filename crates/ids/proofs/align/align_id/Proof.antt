@@ -2,7 +2,7 @@ use mathlib.Core.Path.{refl}
 use Rattle.ids.specs.Ids.{aligned}
 use Rattle.ids.proofs.RoundTrip.{align_good}
 use Rattle.ids.proofs.Columns.{id_in_word}
-use mathlib.Core.Bool.{and_false}
+use mathlib.Core.Bool.{and-false}
 use Rattle.common.proofs.Bools.{said, denied}
 use borrow.Author.Tests.{le-leb, lt-leb, le-ltb}
 use borrow.Author.Rules.{rules}
@@ -19,7 +19,7 @@ returns-2 c = simp (le-leb _ _ c.before.before.if1.false, denied c.before.is-for
 
 returns-3 : tie.Need-returns-3
 unfolding aligned
-returns-3 c = simp (← c.before.id-limit.ensures, le-ltb _ _ c.if3.true, and_false)
+returns-3 c = simp (← c.before.id-limit.ensures, le-ltb _ _ c.if3.true, and-false)
 
 shl-t7 : tie.Need-overflow-shl-t7
 shl-t7 c = (id_in_word _ _ _ _ c.id-low.ensures refl).0

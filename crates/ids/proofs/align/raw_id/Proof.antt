@@ -3,7 +3,7 @@ use Rattle.ids.proofs.Bits.{one_shl}
 use lib.Pow.{pow_pos}
 use Rattle.ids.specs.Ids.{raw_of}
 use Rattle.ids.proofs.Columns.{id_in_word}
-use mathlib.Core.Bool.{and_false}
+use mathlib.Core.Bool.{and-false}
 use Rattle.common.proofs.Bools.{said, denied}
 use borrow.Author.Tests.{le-leb, lt-leb, eq-eqb, ne_eqb, lt-ltb, le-ltb}
 use borrow.Author.Rules.{rules}
@@ -30,7 +30,7 @@ returns-3 c = simp (
   ← c.before.id-low.ensures,
   ne_eqb _ _
       (rw (one_shl _ (shl-if3 c.before)) at c.if3.true),
-  and_false,
+  and-false,
 )
 
 shr-raw : tie.Need-overflow-shr-raw
@@ -43,7 +43,7 @@ returns-4 c = simp (
   ← c.before.id-limit.ensures,
   le-ltb _ _
       c.if4.true,
-  and_false,
+  and-false,
 )
 
 returns-5 : tie.Need-returns-5
