@@ -1,7 +1,10 @@
 // Standard input, read into a lent buffer.
 ghost use Rattle.std.specs.Prelude.{◌≤◌, length};
 
-use libc::STDIN_FILENO;
+use std::io::Read;
+
+// The most bytes that are read.
+pub const ROOM: usize = 65536;
 
 // How many bytes were read, and whether a read failed before the input's end.
 #[derive(Clone, Copy)]
@@ -11,19 +14,17 @@ pub struct Input {
 }
 
 // Reads until the buffer is full or the input ends.
-pub fn read_input(buffer: &mut [u8]) -> Input
+pub fn read_input(from: &mut impl Read, buffer: &mut [u8]) -> Input
     ensures { result.length ≤ length buffer.new }
 {
     let mut n: usize = 0;
     while n < buffer.len() {
-        let got = libc::read(STDIN_FILENO, &mut buffer[n..]);
-        if got < 0 {
+        let Ok(more) = from.read(&mut buffer[n..]) else {
             return Input {
                 length: n,
                 failed: true,
             };
-        }
-        let more = io::count(got, &buffer[n..]);
+        };
         if more == 0 {
             return Input {
                 length: n,

@@ -25,44 +25,44 @@ fn used_of(used: usize, length: usize) -> usize
 }
 
 // Sends the texts one behind the other: what follows the bytes used is handed on as a part.
-fn run(mut step: Step, texts: &[u8]) {
+fn run(rt: &impl Print, mut step: Step, texts: &[u8]) {
     let mut send = [0u8; MESSAGE];
-    let mut lines = io::buffer();
+    let mut lines = [0u8; page::ROOM];
     let mut rest = &texts[0..];
     let mut at: usize = 0;
     while 0 < rest.len() {
         step = sending::send_one(step.device, rest, &mut send);
-        at = page::put_line(&mut lines, at, step.line);
+        at = page::put_line(rt, &mut lines, at, step.line);
         let used = used_of(step.used, rest.len());
         rest = &rest[used..];
     }
-    show::write_front(&lines, at);
+    show::write_front(rt, &lines, at);
 }
 
-fn say_no_device() {
-    show::write_text(b"no device can be opened\n");
+fn say_no_device(rt: &impl Print) {
+    show::write_text(rt, b"no device can be opened\n");
 }
 
 // Runs on a device, where one was opened.
-fn start(opened: Answer, texts: &[u8]) {
+fn start(rt: &impl Print, opened: Answer, texts: &[u8]) {
     if opened.number != 0 {
-        say_no_device();
+        say_no_device(rt);
         return;
     }
-    run(sending::before(opened.device), texts);
+    run(rt, sending::before(opened.device), texts);
 }
 
-fn send_all(texts: &[u8]) {
-    start(sending::open(), texts);
+fn send_all(rt: &impl Print, texts: &[u8]) {
+    start(rt, sending::open(), texts);
 }
 
-fn main() {
-    let mut text = io::large_buffer();
-    let got = input::read_input(&mut text);
+fn main(rt: HostRuntime) {
+    let mut text = [0u8; input::ROOM];
+    let got = input::read_input(&mut rt.stdin(), &mut text);
     if got.failed {
-        show::write_text(b"the input cannot be read\n");
+        show::write_text(&rt, b"the input cannot be read\n");
         return;
     }
     let n = got.length;
-    send_all(&text[0..n]);
+    send_all(&rt, &text[0..n]);
 }

@@ -34,7 +34,7 @@ use Rattle.model.specs.Outbox.{Outbox}
 use Rattle.model.specs.Box.{Box}
 use Rattle.promises.specs.Typed.{Word}
 use Rattle.promises.specs.Stands.{Receives, Register, Sends, Stands}
-use Rattle.layout.specs.Parts.{shared_numbers, receive_numbers, send_numbers, word_bytes, word}
+use Rattle.layout.specs.Parts.{shared_numbers, receive_numbers, send_numbers, word_bytes}
 use Rattle.kept.specs.State.{state_numbers, state_bytes, state_size, device_in, is_state}
 use Rattle.layout.proofs.RoundTrip.{word_words}
 use Rattle.kept.proofs.RoundTrip.{device_back}

@@ -13,6 +13,7 @@ pub const SLOT: usize = messages::records::MESSAGE;
 pub const LIMIT: u32 = 1024;
 
 // Settings and numbers that a send channel can have.
+#[tactic(auto, unfolding(crate::specs::Channel::good_send))]
 pub fn is_send(s: Send) -> bool
     ensures { result ≡ good_send s }
 {

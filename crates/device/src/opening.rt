@@ -87,6 +87,7 @@ fn no_device() -> Device
 }
 
 // Opens a device over two lent tables, of which no byte is written.
+#[tactic(auto, unfolding(crate::specs::Opening::opened))]
 pub fn open(s: Settings, queue: &[u8], send: &[u8]) -> Answer
     ensures { result ≡ answer_of (opened s (lends queue.now send.now [])) }
 {

@@ -10,6 +10,7 @@ use queue::Receive;
 use settings::Shared;
 
 // Settings and state numbers that a device can have.
+#[tactic(auto, unfolding(crate::specs::State::good))]
 pub fn is_good(d: Device) -> bool
     ensures { result ≡ good d }
 {

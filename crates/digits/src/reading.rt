@@ -3,6 +3,7 @@ ghost use Rattle.std.specs.Prelude.{◌≡◌, ◌+◌, ◌*◌};
 ghost use Rattle.digits.specs.Reading.{byte_kind, capped};
 
 // What a byte is in a message text: the value of a digit, 16 for a separator, 17 for an end.
+#[tactic(auto, unfolding(crate::specs::Reading::byte_kind))]
 pub fn byte_kind(b: u8) -> u8
     ensures { result ≡ byte_kind b }
 {

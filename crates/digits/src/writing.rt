@@ -13,6 +13,7 @@ pub fn put_byte(out: &mut [u8], at: usize, b: u8) -> usize
 }
 
 // The upper case hexadecimal digit of a value below 16.
+#[tactic(auto, unfolding(crate::specs::Digits::hex_digit))]
 fn digit(d: u8) -> u8
     requires { d < 16 }
     ensures { result ≡ hex_digit d }

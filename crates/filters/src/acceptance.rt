@@ -9,6 +9,7 @@ use crate::Filter;
 use ids::{Header, align, frame};
 
 // An Align from 0 to 3 and a MaskActive of 0 or 1.
+#[tactic(auto, unfolding(crate::specs::Filters::is_filter))]
 fn is_filter(align: u32, active: u32) -> bool
     ensures { result ≡ is_filter align active }
 {
@@ -29,6 +30,7 @@ fn has_column(align: u32, active: u32, format: u32) -> bool
 }
 
 // The number of bits of an identifier.
+#[tactic(auto, unfolding(ids::specs::Ids::id_bits))]
 fn id_bits(format: u32) -> u32
     ensures { result ≡ id_bits format }
 {
@@ -39,6 +41,7 @@ fn id_bits(format: u32) -> u32
 }
 
 // The lowest filter bit that an identifier meets: at Align 0 the same as at Align 3.
+#[tactic(auto, using(crate::proofs::Fields::low_at_0, crate::proofs::Fields::low_past_0))]
 fn filter_low(format: u32, align: u32) -> u32
     ensures { result ≡ filter_low format align }
 {
@@ -49,6 +52,7 @@ fn filter_low(format: u32, align: u32) -> u32
 }
 
 // The bits of the mask that equal v, as ones.
+#[tactic(auto, using(crate::proofs::Fields::same_flipped, crate::proofs::Fields::same_kept, crate::proofs::Fields::same_none))]
 fn same_bits(mask: u32, v: u32) -> u32
     ensures { (k : ℕ) → k < 32 → bit result k ≡ pick (eqb (bit mask k) v) 1 0 }
 {
@@ -62,6 +66,7 @@ fn same_bits(mask: u32, v: u32) -> u32
 }
 
 // The w lowest bits set.
+#[tactic(auto, using(ids::proofs::Bits::one_shl))]
 fn low_ones(w: u32) -> u32
     requires { w < 32 }
     ensures { result ≡ 2 ^ w - 1 }
@@ -70,6 +75,7 @@ fn low_ones(w: u32) -> u32
 }
 
 // No bit of v that must match differs from the code's.
+#[tactic(auto, using(crate::proofs::Fields::field_closed))]
 fn field_meets(q: Filter, low: u32, v: u32, w: u32) -> bool
     requires { (low < 32) × (w < 32) × (low + w ≤ 32) }
     ensures { result ≡ field_meets q low v w }
@@ -80,6 +86,7 @@ fn field_meets(q: Filter, low: u32, v: u32, w: u32) -> bool
 }
 
 // The identifier meets its filter bits.
+#[tactic(auto, unfolding(crate::specs::Filters::id_passes), using(crate::proofs::Fields::filter_in_word))]
 pub fn id_passes(align: u32, q: Filter, format: u32, id: u32) -> bool
     ensures { result ≡ id_passes align q format id }
 {
@@ -90,6 +97,7 @@ pub fn id_passes(align: u32, q: Filter, format: u32, id: u32) -> bool
 }
 
 // Data byte i meets the filter bits from low up, or isn't carried.
+#[tactic(auto, unfolding(crate::specs::Filters::byte_meets))]
 fn byte_meets(q: Filter, h: Header, i: u32, low: u32, b: u8) -> bool
     requires { low ≤ 8 }
     ensures { result ≡ byte_meets q h i low b }
@@ -101,6 +109,7 @@ fn byte_meets(q: Filter, h: Header, i: u32, low: u32, b: u8) -> bool
 }
 
 // The first two data bytes meet the filter, where it compares them.
+#[tactic(auto, unfolding(crate::specs::Filters::data_passes, crate::specs::Filters::data_compared))]
 fn data_passes(align: u32, q: Filter, h: Header, first: u8, second: u8) -> bool
     ensures { result ≡ data_passes align q h first second }
 {
@@ -117,6 +126,7 @@ fn data_passes(align: u32, q: Filter, h: Header, first: u8, second: u8) -> bool
 }
 
 // In mode 0 an extended frame is filtered.
+#[tactic(auto, unfolding(crate::specs::Filters::mode_takes))]
 pub fn mode_takes(mode: u32, format: u32) -> bool
     ensures { result ≡ mode_takes mode format }
 {
@@ -127,6 +137,7 @@ pub fn mode_takes(mode: u32, format: u32) -> bool
 }
 
 // A frame whose first two data bytes are these passes the filter; one that must match no bit is done at once.
+#[tactic(auto, unfolding(crate::specs::Filters::frame_passes), using(crate::proofs::Open::open_passes))]
 pub fn frame_passes(mode: u32, align: u32, q: Filter, h: Header, first: u8, second: u8) -> bool
     ensures { result ≡ frame_passes mode align q h first second }
 {
@@ -143,6 +154,7 @@ pub fn frame_passes(mode: u32, align: u32, q: Filter, h: Header, first: u8, seco
 }
 
 // How many of the w filter bits from low up are free.
+#[tactic(auto, using(crate::proofs::Fields::free_closed))]
 fn free_bits(q: Filter, low: u32, w: u32) -> u32
     requires { (q.active ≤ 1) × (low < 32) × (w < 32) × (low + w ≤ 32) }
     ensures { result ≡ free_bits q low w }
@@ -152,6 +164,7 @@ fn free_bits(q: Filter, low: u32, w: u32) -> u32
 }
 
 // How many identifiers of a format the filter lets through.
+#[tactic(auto, unfolding(crate::specs::Filters::let_through), using(crate::proofs::Fields::filter_in_word, crate::proofs::Fields::filter_active, crate::proofs::Fields::free_small, ids::proofs::Bits::one_shl))]
 pub fn let_through(align: u32, q: Filter, format: u32) -> u32
     ensures { result ≡ let_through align q format }
 {

@@ -5,6 +5,7 @@ ghost use Rattle.ids.specs.Ids.{is_format, id_bits, id_low, aligned, raw_of};
 use crate::Id;
 
 // Format 1 or 2.
+#[tactic(auto, unfolding(crate::specs::Ids::is_format))]
 pub fn is_format(format: u32) -> bool
     ensures { result ≡ is_format format }
 {
@@ -15,6 +16,7 @@ pub fn is_format(format: u32) -> bool
 }
 
 // How many identifiers a format has.
+#[tactic(auto, unfolding(crate::specs::Ids::id_bits))]
 pub fn id_limit(format: u32) -> u32
     ensures { result ≡ 2 ^ id_bits format }
 {
@@ -25,6 +27,7 @@ pub fn id_limit(format: u32) -> u32
 }
 
 // The lowest bit of the identifier's field.
+#[tactic(auto, unfolding(crate::specs::Ids::id_low), using(crate::proofs::Columns::column))]
 pub fn id_low(format: u32, align: u32) -> u32
     ensures { result ≡ id_low format align }
 {
@@ -44,6 +47,7 @@ pub fn id_low(format: u32, align: u32) -> u32
 }
 
 // A raw identifier shown under an Align.
+#[tactic(auto, unfolding(crate::specs::Ids::aligned), using(crate::proofs::Columns::id_in_word))]
 pub fn align_id(align: u32, format: u32, raw: u32) -> Id
     ensures { result ≡ aligned align format raw }
 {
@@ -60,6 +64,7 @@ pub fn align_id(align: u32, format: u32, raw: u32) -> Id
 }
 
 // The raw identifier of an aligned one.
+#[tactic(auto, unfolding(crate::specs::Ids::raw_of), using(crate::proofs::Columns::id_in_word, crate::proofs::Bits::one_shl))]
 pub fn raw_id(align: u32, format: u32, shown: u32) -> Id
     ensures { result ≡ raw_of align format shown }
 {

@@ -18,6 +18,7 @@ pub fn rtr_dlc_refusal(rtr: u32, dlc: u32) -> u32
 }
 
 // 0 for a good header, or the first of 13, 8, 9, 10.
+#[tactic(auto, unfolding(crate::specs::Frames::header_refusal))]
 pub fn header_refusal(h: Header) -> u32
     ensures { result ≡ header_refusal h }
 {
@@ -31,6 +32,7 @@ pub fn header_refusal(h: Header) -> u32
 }
 
 // How many data bytes a frame carries.
+#[tactic(auto, unfolding(crate::specs::Frames::carried))]
 pub fn carried_by(h: Header) -> u32
     ensures { result ≡ carried h }
 {

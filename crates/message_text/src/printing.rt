@@ -21,6 +21,7 @@ fn refuse(number: u32) -> Printed
 }
 
 // The line of a message whose aligned identifier is id.
+#[tactic(auto, using(digits::proofs::Lengths::hex_length, digits::proofs::Lengths::fields_length, ids::proofs::Frames::carried_le))]
 fn put_message(out: &mut [u8], id: u32, h: Header, b: [u8; 8]) -> usize
     requires { 37 ≤ length out.old }
     ensures { Put out.old 0 (message_text id h b) out.new result }
@@ -34,6 +35,7 @@ fn put_message(out: &mut [u8], id: u32, h: Header, b: [u8; 8]) -> usize
 }
 
 // Prints a message given alone: its identifier is raw.
+#[tactic(auto, unfolding(crate::specs::Printing::message_refusal), using(crate::proofs::Printed::id_not_bad, digits::proofs::Answers::no_room, digits::proofs::Answers::no_align, digits::proofs::Answers::refused, digits::proofs::Answers::passed))]
 pub fn print_message(align: u32, m: Message, out: &mut [u8]) -> Printed
     ensures { Prints (message_refusal align m (length out.old)) (message_line align m)
         out.old result out.new }
@@ -61,6 +63,7 @@ pub fn print_message(align: u32, m: Message, out: &mut [u8]) -> Printed
 }
 
 // Prints a message record.
+#[tactic(auto, unfolding(crate::specs::Printing::message_record_refusal), using(crate::proofs::Printed::damaged, digits::proofs::Answers::no_room, digits::proofs::Answers::no_align, digits::proofs::Answers::refused, digits::proofs::Answers::passed))]
 pub fn print_record(align: u32, s: &[u8], out: &mut [u8]) -> Printed
     ensures { Prints (message_record_refusal align s.now (length out.old))
         (message_line align (message_in s.now)) out.old result out.new }

@@ -9,6 +9,7 @@ use ids::{Header, Id};
 use numbers::{Kept, scanning};
 
 // The raw identifier of an aligned one of any size.
+#[tactic(auto, using(crate::proofs::Ids::raw_large))]
 fn raw_of(align: u32, format: u32, v: u64) -> Id
     ensures { result ≡ raw_of align format v }
 {
@@ -33,6 +34,7 @@ fn all_bytes(at: [u64; 11]) -> bool
 }
 
 // The eight data bytes: the first n values from the fourth on, then zeros.
+#[tactic(auto, using(crate::proofs::Data::data_done))]
 fn data_bytes(at: [u64; 11], n: u32) -> [u8; 8]
     requires { (n ≤ 8) × (all_bytes (drop 3 at) ≡ true) }
     ensures { result ≡ take n (drop 3 at) ++ replicate (8 - n) 0 }
@@ -59,6 +61,7 @@ fn refuse(number: u32, used: usize) -> Said
 }
 
 // A good header's data among the numbers kept.
+#[tactic(auto, unfolding(crate::specs::Reading::judged_data), using(ids::proofs::Frames::carried_le))]
 fn judge_data(h: Header, kept: Kept, used: usize) -> Said
     ensures { result ≡ judged_data h kept.count kept.at used }
 {
@@ -83,6 +86,7 @@ fn judge_data(h: Header, kept: Kept, used: usize) -> Said
 }
 
 // What the numbers kept say.
+#[tactic(auto, unfolding(crate::specs::Reading::judged))]
 fn judge(align: u32, format: u32, kept: Kept, used: usize) -> Said
     ensures { result ≡ judged align format kept.count kept.at used }
 {
@@ -110,6 +114,7 @@ fn judge(align: u32, format: u32, kept: Kept, used: usize) -> Said
 }
 
 // What a message text says under an Align, for a channel's default format.
+#[tactic(auto, unfolding(crate::specs::Reading::read_message), using(crate::proofs::Judging::text_judged))]
 pub fn read_message(align: u32, format: u32, text: &[u8]) -> Said
     ensures { result ≡ read_message align format text.now }
 {

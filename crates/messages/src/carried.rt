@@ -9,6 +9,7 @@ fn wide(x: u32) -> u64
 }
 
 // The number that eight bytes stand for, lowest first.
+#[tactic(auto, using(crate::proofs::Data::halves))]
 fn long_of(b: &[u8]) -> u64
     requires { length b.now ≡ 8 }
     ensures { result ≡ number_of b.now }
@@ -42,6 +43,7 @@ fn bytes_of(d: u64) -> [u8; 8]
 }
 
 // 256 to the power n.
+#[tactic(auto, using(crate::proofs::Data::power_shl))]
 fn power(n: u32) -> u64
     requires { n < 8 }
     ensures { result ≡ 256 ^ n }
@@ -50,6 +52,7 @@ fn power(n: u32) -> u64
 }
 
 // All bytes past the first n are zero.
+#[tactic(auto, using(crate::proofs::Data::past, crate::proofs::Data::none_past))]
 pub fn zero_past(b: &[u8], n: u32) -> bool
     requires { length b.now ≡ 8 }
     ensures { result ≡ all_zero (drop n b.now) }
@@ -61,6 +64,7 @@ pub fn zero_past(b: &[u8], n: u32) -> bool
 }
 
 // The first n bytes, and zeros for the others.
+#[tactic(auto, using(crate::proofs::Data::kept, crate::proofs::Data::all_kept))]
 pub fn keep_first(b: &[u8], n: u32) -> [u8; 8]
     requires { length b.now ≡ 8 }
     ensures { result ≡ take n b.now ++ replicate (8 - n) 0 }

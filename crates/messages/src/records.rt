@@ -11,6 +11,7 @@ use ids::Header;
 pub const MESSAGE: usize = 16;
 
 // The message as it is stored: bytes that its frame does not carry are zero.
+#[tactic(auto, unfolding(crate::specs::Records::stored), using(crate::proofs::Data::none_carried, crate::proofs::Data::some_carried))]
 pub fn stored(m: Message) -> Message
     ensures { result ≡ stored m }
 {
@@ -31,6 +32,7 @@ pub fn stored(m: Message) -> Message
 }
 
 // A good header, and no byte that is not carried.
+#[tactic(auto, unfolding(crate::specs::Records::good_message))]
 pub fn is_good(m: Message) -> bool
     ensures { result ≡ good_message m }
 {
@@ -61,6 +63,7 @@ fn header_bytes(h: Header) -> [u8; 8]
 }
 
 // Writes a lent slot of 16 bytes; a part of another length stays as it is.
+#[tactic(auto, using(crate::proofs::Laws::message_written))]
 pub fn write_message(slot: &mut [u8], m: Message)
     ensures { slot.new
         ≡ pick (eqb (length slot.old) message_size) (message_bytes m) slot.old }
@@ -75,6 +78,7 @@ pub fn write_message(slot: &mut [u8], m: Message)
 }
 
 // The message in 16 bytes.
+#[tactic(auto, unfolding(crate::specs::Records::message_in), using(common::proofs::Lists::reads_slice))]
 fn message_in(s: &[u8]) -> Message
     requires { length s.now ≡ 16 }
     ensures { result ≡ message_in s.now }
@@ -94,6 +98,7 @@ fn message_in(s: &[u8]) -> Message
 }
 
 // The bytes are those of a good message.
+#[tactic(auto, unfolding(crate::specs::Records::is_message))]
 pub fn is_message(s: &[u8]) -> bool
     ensures { result ≡ is_message s.now }
 {
@@ -107,6 +112,7 @@ pub fn is_message(s: &[u8]) -> bool
 }
 
 // The bytes are a message's place with no message in it: sixteen zeros, looked at eight at a time.
+#[tactic(auto, using(crate::proofs::Laws::first_not_zero, crate::proofs::Laws::second_decides))]
 pub fn is_empty(s: &[u8]) -> bool
     ensures { result ≡ is_empty s.now }
 {
@@ -137,6 +143,7 @@ pub fn no_message() -> Message
 }
 
 // The message that any bytes hold, or damaged.
+#[tactic(auto, unfolding(crate::specs::Records::judge_message), using(crate::proofs::Laws::message_tests))]
 pub fn judge_message(s: &[u8]) -> JudgedMessage
     ensures { result ≡ judge_message s.now }
 {

@@ -59,6 +59,7 @@ pub fn scan(text: &[u8]) -> Scanned
 }
 
 // Where the first end from a position on stands, or the text's length.
+#[tactic(auto, using(crate::proofs::Ends::before_last, crate::proofs::Ends::before_stop, crate::proofs::Ends::before_more))]
 pub fn first_end(text: &[u8], from: usize) -> usize
     ensures { result ≡ from + before_end (drop from text.now) }
 {
@@ -73,6 +74,7 @@ pub fn first_end(text: &[u8], from: usize) -> usize
 }
 
 // The position after the ends that stand in a row at a position.
+#[tactic(auto, using(crate::proofs::Ends::run_last, crate::proofs::Ends::run_stop, crate::proofs::Ends::run_more))]
 pub fn after_ends(text: &[u8], from: usize) -> usize
     ensures { result ≡ from + end_run (drop from text.now) }
 {

@@ -97,8 +97,8 @@ module _ (d : Device) (q t out : List ℕ) (i : ℕ) (b : Inbox) (o : Outbox) (h
     oldest_in = rw oldest_is (event_is k.event (rw e at h.inbox.sound).0).1
 
     -- without it the others stand in the queue
-    after_read : Receives (after_read d.receive) q (Model.reading k rest b)
-    after_read = record {
+    after_read_lem : Receives (after_read d.receive) q (Model.reading k rest b)
+    after_read_lem = record {
       settings = h.inbox.settings;
       filter = h.inbox.filter;
       code = h.inbox.code;
@@ -134,7 +134,7 @@ module _ (d : Device) (q t out : List ℕ) (i : ℕ) (b : Inbox) (o : Outbox) (h
       by (k ∷ rest) e =
           rw (oldest_read k rest e) (
             record { number = refl; value = refl; bytes = oldest_is k rest e; line = refl },
-            with_receive_lem _ _ (after_read k rest e),
+            with_receive_lem _ _ (after_read_lem k rest e),
           )
 
   -- a read as text
@@ -154,7 +154,7 @@ module _ (d : Device) (q t out : List ℕ) (i : ℕ) (b : Inbox) (o : Outbox) (h
           out (Taken d o (takes_oldest (says 4) (λ (e : Event). prints (event_line d.shared.align e)) ks b))
       by [] e = rw (nothing_read e) (told (says 4) d q t out, h)
       by (k ∷ rest) e =
-          rw (oldest_read k rest e, oldest_in k rest e) (told _ _ _ _ _, with_receive_lem _ _ (after_read k rest e))
+          rw (oldest_read k rest e, oldest_in k rest e) (told _ _ _ _ _, with_receive_lem _ _ (after_read_lem k rest e))
 
   -- a look at position p
   look_is : (p : ℕ) → Doing (look p)

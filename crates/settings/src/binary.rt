@@ -29,6 +29,7 @@ fn is_sendable(mode: u32, format: u32) -> bool
 }
 
 // The message to store, or why not.
+#[tactic(auto, unfolding(crate::specs::Binary::brought, crate::specs::Binary::binary_refusal))]
 pub fn bring(s: Shared, m: Message) -> Brought
     ensures { result ≡ brought s m }
 {

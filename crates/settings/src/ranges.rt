@@ -6,6 +6,7 @@ use crate::Shared;
 use sites::Site;
 
 // Mode, format, Align and site in their ranges: mode 0 has the formats 0 and 1, mode 1 has 2 as well.
+#[tactic(auto, using(crate::proofs::Laws::shared_tests, crate::proofs::Laws::shared_mode))]
 pub fn is_shared(s: Shared) -> bool
     ensures { result ≡ good_shared s }
 {
@@ -60,6 +61,7 @@ pub fn with_site(s: Shared, site: Site) -> Shared
 }
 
 // A format of a call, 0 being the channel's default.
+#[tactic(auto, unfolding(crate::specs::Ranges::format_of))]
 pub fn format_of(s: Shared, format: u32) -> u32
     ensures { result ≡ format_of s format }
 {

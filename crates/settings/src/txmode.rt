@@ -3,6 +3,7 @@ ghost use Rattle.std.specs.Prelude.{◌≡◌};
 ghost use Rattle.settings.specs.TxMode.{good_tx, raises_at_take, raises_at_done};
 
 // TxMode is 1, 3, 5 or 7.
+#[tactic(auto, unfolding(crate::specs::TxMode::good_tx))]
 pub fn is_tx(tx: u32) -> bool
     ensures { result ≡ good_tx tx }
 {
@@ -13,6 +14,7 @@ pub fn is_tx(tx: u32) -> bool
 }
 
 // A transmitted event is raised at take.
+#[tactic(auto, unfolding(crate::specs::TxMode::raises_at_take))]
 pub fn raises_at_take(tx: u32) -> bool
     ensures { result ≡ raises_at_take tx }
 {
@@ -23,6 +25,7 @@ pub fn raises_at_take(tx: u32) -> bool
 }
 
 // A transmitted event is raised at done.
+#[tactic(auto, unfolding(crate::specs::TxMode::raises_at_done))]
 pub fn raises_at_done(tx: u32) -> bool
     ensures { result ≡ raises_at_done tx }
 {

@@ -7,9 +7,9 @@ mod message_texts;
 mod queueing;
 mod setting;
 
-fn main() {
-    message_texts::cases();
-    identifiers::cases();
-    queueing::cases();
-    event_line::cases();
+fn main(rt: HostRuntime) {
+    message_texts::cases(&rt);
+    identifiers::cases(&rt);
+    queueing::cases(&rt);
+    event_line::cases(&rt);
 }

@@ -1,18 +1,16 @@
 -- Lines built in a buffer.
 use Prim.Native.Nat.{ℕ, suc, ◌+◌, ◌*◌, ◌^◌, ◌≤◌, ◌<◌}
 use mathlib.Core.Path.{◌≡◌, refl, sym, ◌∙◌}
-use mathlib.Core.List.{List, [], ◌∷◌, ◌++◌}
+use mathlib.Core.List.{List, [], ◌∷◌}
 use native.Mathlib.Numerals.{add-one}
 use native.Mathlib.Omega.{arith}
-use lib.ListN.{length, get_or, take, drop, length-append, drop_of_length-le}
+use lib.ListN.{length, get_or, drop, length-append, drop_of_length-le}
 use lib.Seq.{sets, drop-cons, take_at}
-use Rattle.digits.specs.Ascii.{ascii}
-use Rattle.digits.specs.Digits.{hex, decimal}
+use Rattle.digits.specs.Digits.{hex}
 use Rattle.digits.specs.Written.{Put}
 use Rattle.digits.proofs.Written.{sets_append, printed}
 use Rattle.digits.proofs.Lengths.{hex_length, decimal_length_le}
 use Rattle.show.specs.Lines.{pairs, refused_line, LineHeld}
-use Rattle.show.specs.declared.Line.{Line}
 
 -- a line written from the front on is held
 pub held :

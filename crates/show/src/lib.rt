@@ -7,7 +7,6 @@ ghost use Rattle.std.specs.Prelude.{◌≡◌};
 ghost use Rattle.show.specs.Lines.{LineHeld, record_line, refused_line};
 
 use digits::writing;
-use libc::STDOUT_FILENO;
 
 // A line, with zeros behind its length.
 #[derive(Clone, Copy)]
@@ -64,37 +63,37 @@ pub fn counted(n: usize) -> u32 {
 }
 
 // Writes bytes as they are.
-pub fn write_text(text: &[u8]) {
-    io::write_all(STDOUT_FILENO, text);
+pub fn write_text(rt: &impl Print, text: &[u8]) {
+    let _ = rt.write_all(text);
 }
 
 // Ends a line.
-pub fn end_line() {
-    write_text(b"\n");
+pub fn end_line(rt: &impl Print) {
+    write_text(rt, b"\n");
 }
 
 // Writes the first n bytes of a buffer.
-pub fn write_front(buffer: &[u8], n: usize) {
+pub fn write_front(rt: &impl Print, buffer: &[u8], n: usize) {
     if buffer.len() < n {
         return;
     }
-    io::write_all(STDOUT_FILENO, &buffer[0..n]);
+    write_text(rt, &buffer[0..n]);
 }
 
 // Writes a line.
-pub fn write_line(line: Line) {
+pub fn write_line(rt: &impl Print, line: Line) {
     let b = line.bytes;
-    write_front(&b, line.length);
+    write_front(rt, &b, line.length);
 }
 
 // Writes the line of a refusal.
-pub fn write_refused(number: u32, used: u32) {
-    write_line(refused_line(number, used));
+pub fn write_refused(rt: &impl Print, number: u32, used: u32) {
+    write_line(rt, refused_line(number, used));
 }
 
 // Writes a number in decimal.
-pub fn write_number(n: u32) {
+pub fn write_number(rt: &impl Print, n: u32) {
     let mut line = [0u8; 10];
     let length = writing::put_decimal(&mut line, 0, n as u64);
-    write_front(&line, length);
+    write_front(rt, &line, length);
 }

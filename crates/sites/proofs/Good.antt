@@ -1,5 +1,5 @@
 -- What it says of a site's two numbers that they are in range.
-use Prim.Native.Nat.{ℕ, ◌-◌, ◌^◌, ◌≤◌, ◌<◌}
+use Prim.Native.Nat.{ℕ, ◌^◌, ◌≤◌, ◌<◌}
 use mathlib.Core.Path.{◌≡◌, refl}
 use mathlib.Core.Bool.{true, and-true}
 use native.Mathlib.Omega.{arith}

@@ -37,6 +37,7 @@ fn put_two(out: &mut [u8], at: usize, k: u32) -> usize
 }
 
 // The sign, the hours, a colon and the minutes.
+#[tactic(auto, unfolding(crate::specs::Texts::offset_text), using(crate::proofs::Good::minutes_le))]
 fn put_offset(out: &mut [u8], at: usize, n: u32) -> usize
     requires { (good_offset n ≡ true) × (at + 6 ≤ length out.old) }
     ensures { Put out.old at (offset_text n) out.new result }
@@ -49,6 +50,7 @@ fn put_offset(out: &mut [u8], at: usize, n: u32) -> usize
 }
 
 // A site's two fields, each behind a TAB.
+#[tactic(auto, using(crate::proofs::Good::good_site_lem, crate::proofs::Lengths::site_length, crate::proofs::Lengths::offset_length))]
 pub fn put_site(out: &mut [u8], at: usize, s: Site) -> usize
     requires { (good_site s ≡ true) × (at + length (site_text s) ≤ length out.old) }
     ensures { Put out.old at (site_text s) out.new result }

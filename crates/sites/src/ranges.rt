@@ -5,6 +5,7 @@ ghost use Rattle.sites.specs.Sites.{good_offset, good_site};
 use crate::Site;
 
 // Minutes from -720 to 840, a negative one as a 32-bit number in two's complement.
+#[tactic(auto, unfolding(crate::specs::Sites::good_offset), using(crate::proofs::Good::past_east))]
 fn is_offset(n: u32) -> bool
     ensures { result ≡ good_offset n }
 {
@@ -15,6 +16,7 @@ fn is_offset(n: u32) -> bool
 }
 
 // Both numbers are in range.
+#[tactic(auto, unfolding(crate::specs::Sites::good_site))]
 pub fn is_site(s: Site) -> bool
     ensures { result ≡ good_site s }
 {

@@ -20,6 +20,7 @@ pub fn no_site() -> Site
 }
 
 // The bytes of a site, each number lowest byte first.
+#[tactic(auto, unfolding(crate::specs::Sites::site_bytes))]
 pub fn site_bytes(s: Site) -> [u8; SITE]
     ensures { result ≡ site_bytes s }
 {
@@ -67,6 +68,7 @@ fn joined(low: u32, high: u32) -> u64
 }
 
 // The site in the eight bytes from `at` on.
+#[tactic(auto, using(crate::proofs::RoundTrip::site_read))]
 pub fn site_at(s: &[u8], at: usize) -> Site
     requires { at + 8 ≤ length s.now }
     ensures { result ≡ site_in (slice at (at + 8) s.now) }

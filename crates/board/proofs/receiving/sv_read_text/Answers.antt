@@ -1,0 +1,30 @@
+use mathlib.Core.Path.{sym, ◌∙◌}
+use mathlib.Core.List.{[]}
+use Rattle.device.specs.Outcomes.{lends}
+use Rattle.recorder.specs.Receiving.{text_read}
+use Rattle.kept.proofs.Moves.{text_moves, answer_advanced}
+use Rattle.board.proofs.Ways.{not_with, text_called}
+use Rattle.kept.proofs.Laws.{state_long}
+use Rattle.board.proofs.receiving.sv_read_text.Goals as goal
+
+pub returns-then-not-is_state : goal.returns-then-not-is_state
+returns-then-not-is_state c = not_with _ _ _ (sym c.is_state.ensures ∙ c.if-not-is_state.true)
+
+pub device_in-d-requires : goal.device_in-d-requires
+device_in-d-requires c = state_long _ (sym c.is_state.ensures ∙ c.if-not-is_state.false)
+
+pub leave_advanced-requires : goal.leave_advanced-requires
+leave_advanced-requires c =
+    (sym c.is_state.ensures ∙ c.if-not-is_state.false)
+
+pub returns : goal.returns
+returns c =
+    let a = c.args in
+    let d = c.device_in-d.result in
+    let l = lends a.queue.now [] a.out.now in
+    let read = c.read_text-r.ensures in
+    let left = answer_advanced a.state.now c.device_in-d.ensures (text_read d l) (text_moves d l)
+    read.answer
+    c.leave_advanced.ensures in
+    text_called _ (sym c.is_state.ensures ∙ c.if-not-is_state.false) c.device_in-d.ensures
+    _ left read c.hand.ensures
