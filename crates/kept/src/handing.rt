@@ -14,6 +14,7 @@ use messages::Message;
 use messages::records::MESSAGE;
 
 // The refusals are the numbers 1 to 99.
+#[tactic(auto, unfolding(common::specs::Refusals::is_refusal))]
 fn is_refusal(number: u32) -> bool
     ensures { result ≡ is_refusal number }
 {
@@ -36,6 +37,7 @@ pub fn leave(state: &mut [u8], number: u32, d: Device) -> u32
 }
 
 // The same after a raise, which can change count and pending of the queue alone.
+#[tactic(auto, using(crate::proofs::Laws::state_long, crate::proofs::Laws::counted_written))]
 pub fn leave_counted(state: &mut [u8], number: u32, count: u32, pending: u32) -> u32
     requires { is_state state.old ≡ true }
     ensures { Left number (counted (device_in state.old) count pending)
@@ -49,6 +51,7 @@ pub fn leave_counted(state: &mut [u8], number: u32, count: u32, pending: u32) ->
 }
 
 // The same after a read, which changes first and count of the queue.
+#[tactic(auto, using(crate::proofs::Laws::state_long, crate::proofs::Laws::advanced_written))]
 pub fn leave_advanced(state: &mut [u8], number: u32, first: u32, count: u32) -> u32
     requires { is_state state.old ≡ true }
     ensures { Left number (advanced (device_in state.old) first count)
@@ -62,6 +65,7 @@ pub fn leave_advanced(state: &mut [u8], number: u32, first: u32, count: u32) -> 
 }
 
 // The same after take, done and abort: count and pending of the queue; first, count and register of the send channel.
+#[tactic(auto, using(crate::proofs::Laws::state_long, crate::proofs::Laws::transferred_written))]
 pub fn leave_transferred(state: &mut [u8], number: u32, count: u32, pending: u32, s: Send) -> u32
     requires { is_state state.old ≡ true }
     ensures { Left number (transferred (counted (device_in state.old) count pending) s)

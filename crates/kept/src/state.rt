@@ -13,6 +13,7 @@ pub const RECEIVE: usize = 24;
 pub const SEND: usize = 56;
 
 // The bytes are a state: as many, and the register is held or not.
+#[tactic(auto, unfolding(crate::specs::State::is_state))]
 pub fn is_state(s: &[u8]) -> bool
     ensures { result ≡ is_state s.now }
 {
@@ -23,6 +24,7 @@ pub fn is_state(s: &[u8]) -> bool
 }
 
 // The bytes are a state whose device is possible, each part judged in place.
+#[tactic(auto, using(crate::proofs::Judged::not_long, crate::proofs::Judged::shared_out, crate::proofs::Judged::receive_out, crate::proofs::Judged::buffer_out, crate::proofs::Judged::register_said))]
 pub fn is_possible(s: &[u8]) -> bool
     ensures { result ≡ is_possible s.now }
 {
@@ -42,6 +44,7 @@ pub fn is_possible(s: &[u8]) -> bool
 }
 
 // The device that a state stands for.
+#[tactic(auto, unfolding(crate::specs::State::device_in))]
 pub fn device_in(s: &[u8]) -> Device
     requires { length s.now ≡ state_size }
     ensures { result ≡ device_in s.now }

@@ -5,6 +5,7 @@ ghost use Rattle.common.specs.Numbers.{bytes_of};
 ghost use Rattle.layout.specs.Parts.{word_bytes, word};
 
 // The number from `at` on.
+#[tactic(auto, unfolding(crate::specs::Parts::word))]
 pub fn word(s: &[u8], at: usize) -> u32
     requires { at + 4 ≤ length s.now }
     ensures { result ≡ word s.now at }

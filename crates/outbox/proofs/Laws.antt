@@ -1,6 +1,6 @@
 -- What a ready send channel says of its parts, and what a call's two ways show.
 use mathlib.Core.Path.{◌≡◌, refl, sym, ap, subst, ◌∙◌}
-use mathlib.Core.Bool.{Bool, true, false, not, ◌&&◌, ◌||◌}
+use mathlib.Core.Bool.{Bool, true, false, not}
 use mathlib.Core.List.{List, []}
 use Prim.Native.Nat.{ℕ, ◌+◌, ◌-◌, ◌*◌, ◌≤◌, ◌<◌}
 use native.Mathlib.Omega.{arith}
@@ -8,21 +8,21 @@ use lib.ListN.{length, take, drop}
 use lib.Dec.{ltb, eqb}
 use borrow.Author.Tests.{eqb-true, eq-eqb, ne_eqb, leb-true, ltb-true}
 use Rattle.common.specs.Choice.{pick}
-use Rattle.common.specs.Rings.{good_ring, slot_of}
+use Rattle.common.specs.Rings.{slot_of}
 use Rattle.common.proofs.Bools.{apart, and_left, and_right, said, denied}
 use Rattle.common.proofs.Choices.{by_test, pick_is, passed, stopped}
-use Rattle.common.proofs.RingFacts.{RingFacts, good_ring_lem, slot_part}
-use Rattle.messages.specs.Records.{message_size, good_message, message_in, is_message, judge_message}
+use Rattle.common.proofs.RingFacts.{slot_part}
+use Rattle.messages.specs.Records.{message_size, message_in, is_message, judge_message}
 use Rattle.messages.proofs.RoundTrip.{good_is, message_as}
 use Rattle.messages.specs.declared.Message.{Message}
 use Rattle.messages.specs.declared.JudgedMessage.{JudgedMessage}
-use Rattle.settings.specs.TxMode.{good_tx, raises_at_take, raises_at_done}
+use Rattle.settings.specs.TxMode.{raises_at_take, raises_at_done}
 use Rattle.settings.specs.Ranges.{good_shared}
 use Rattle.settings.specs.Binary.{binary_refusal, brought}
 use Rattle.settings.specs.declared.Shared.{Shared}
 use Rattle.settings.specs.declared.Brought.{Brought}
 use Rattle.settings.proofs.Laws.{brought_number, brought_message}
-use Rattle.buffer.specs.Channel.{send_limit, good_send, send_fits, oldest}
+use Rattle.buffer.specs.Channel.{good_send, send_fits, oldest}
 use Rattle.outbox.specs.Refusals.{possible, ready, put_refusal, wait_refusal, take_refusal, not_found, found}
 use Rattle.outbox.specs.Refusals.{done_refusal, abort_refusal}
 use Rattle.outbox.specs.Calls.{Outcome, raised_if, refused, settled, sent_of, WriteMet, puts, sent, reads}

@@ -130,6 +130,7 @@ pub fn take(h: Shared, s: Send, tick: u32, table: &[u8]) -> Taken
 }
 
 // Empties the register: its message was transmitted.
+#[tactic(auto, unfolding(crate::specs::Calls::finished))]
 pub fn done(h: Shared, s: Send, tick: u32) -> Emptied
     ensures { result ≡ emptied_of (finished h s tick []) }
 {
@@ -149,6 +150,7 @@ pub fn done(h: Shared, s: Send, tick: u32) -> Emptied
 }
 
 // Empties the register, aborting its message, and purges the buffer; answers how many were purged.
+#[tactic(auto, unfolding(crate::specs::Calls::aborted))]
 pub fn abort(h: Shared, s: Send, tick: u32) -> Emptied
     ensures { result ≡ emptied_of (aborted h s tick []) }
 {

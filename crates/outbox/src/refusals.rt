@@ -8,6 +8,7 @@ use buffer::{Send, channel};
 use settings::Shared;
 
 // Settings and channel are possible.
+#[tactic(auto, unfolding(crate::specs::Refusals::possible))]
 fn is_possible(h: Shared, s: Send) -> bool
     ensures { result ≡ possible h s }
 {
@@ -18,6 +19,7 @@ fn is_possible(h: Shared, s: Send) -> bool
 }
 
 // They are, and the table, of n bytes, is long enough.
+#[tactic(auto, unfolding(crate::specs::Refusals::ready))]
 fn is_ready(h: Shared, s: Send, n: usize) -> bool
     ensures { result ≡ ready h s n }
 {
@@ -28,6 +30,7 @@ fn is_ready(h: Shared, s: Send, n: usize) -> bool
 }
 
 // send and send_text, whose message has its own refusal or 0: 2, its own, 5.
+#[tactic(auto, unfolding(crate::specs::Refusals::put_refusal))]
 pub fn put_refusal(h: Shared, s: Send, n: usize, own: u32) -> u32
     ensures { result ≡ put_refusal h s n own }
 {
@@ -45,6 +48,7 @@ pub fn put_refusal(h: Shared, s: Send, n: usize, own: u32) -> u32
 }
 
 // take, before the oldest slot is looked at: 2, 5, 4.
+#[tactic(auto, unfolding(crate::specs::Refusals::wait_refusal))]
 fn wait_refusal(h: Shared, s: Send, n: usize) -> u32
     ensures { result ≡ wait_refusal h s n }
 {
@@ -91,6 +95,7 @@ pub fn find(h: Shared, s: Send, table: &[u8]) -> Found
 }
 
 // done: 2, 4.
+#[tactic(auto, unfolding(crate::specs::Refusals::done_refusal))]
 pub fn done_refusal(h: Shared, s: Send) -> u32
     ensures { result ≡ done_refusal h s }
 {
@@ -104,6 +109,7 @@ pub fn done_refusal(h: Shared, s: Send) -> u32
 }
 
 // abort: 2.
+#[tactic(auto, unfolding(crate::specs::Refusals::abort_refusal))]
 pub fn abort_refusal(h: Shared, s: Send) -> u32
     ensures { result ≡ abort_refusal h s }
 {

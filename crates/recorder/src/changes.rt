@@ -9,6 +9,7 @@ use settings::Shared;
 use sites::Site;
 
 // Sets the shared settings anew, and raises code 5.
+#[tactic(auto, unfolding(crate::specs::Changes::changed))]
 fn change(d: Device, s: Shared, tick: u32, queue: &mut [u8]) -> Answer
     ensures { QueueMet (changed s tick d (lends queue.old [] [])) result queue.new }
 {
@@ -54,6 +55,7 @@ pub fn set_format(d: Device, format: u32, tick: u32, queue: &mut [u8]) -> Answer
 }
 
 // Sets the site of later events.
+#[tactic(auto, unfolding(crate::specs::Changes::site_set))]
 pub fn set_site(d: Device, site: Site) -> Answer
     ensures { result ≡ answer_of (site_set site d (lends [] [] [])) }
 {
@@ -68,6 +70,7 @@ pub fn set_site(d: Device, site: Site) -> Answer
 }
 
 // Sets code and mask of the filter.
+#[tactic(auto, unfolding(crate::specs::Changes::filter_set))]
 pub fn set_filter(d: Device, code: u32, mask: u32) -> Answer
     ensures { result ≡ answer_of (filter_set code mask d (lends [] [] [])) }
 {
@@ -80,6 +83,7 @@ pub fn set_filter(d: Device, code: u32, mask: u32) -> Answer
 }
 
 // Sets the event mask.
+#[tactic(auto, unfolding(crate::specs::Changes::event_mask_set))]
 pub fn set_event_mask(d: Device, events: u32) -> Answer
     ensures { result ≡ answer_of (event_mask_set events d (lends [] [] [])) }
 {

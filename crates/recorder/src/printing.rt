@@ -19,6 +19,7 @@ fn refuse(number: u32) -> Printed
 }
 
 // Prints a message record.
+#[tactic(auto, unfolding(crate::specs::Printing::line_printed))]
 pub fn print_message_record(d: Device, s: &[u8], out: &mut [u8]) -> Printed
     ensures { PrintMet (message_record_printed s.now d (lends [] [] out.old))
         result out.new }
@@ -31,6 +32,7 @@ pub fn print_message_record(d: Device, s: &[u8], out: &mut [u8]) -> Printed
 }
 
 // Prints an event record.
+#[tactic(auto, unfolding(crate::specs::Printing::line_printed))]
 pub fn print_event_record(d: Device, s: &[u8], out: &mut [u8]) -> Printed
     ensures { PrintMet (event_record_printed s.now d (lends [] [] out.old))
         result out.new }
@@ -43,6 +45,7 @@ pub fn print_event_record(d: Device, s: &[u8], out: &mut [u8]) -> Printed
 }
 
 // Prints a message given alone: raw identifier, either mode.
+#[tactic(auto, unfolding(crate::specs::Printing::line_printed))]
 pub fn print_message(d: Device, m: Message, out: &mut [u8]) -> Printed
     ensures { PrintMet (message_printed m d (lends [] [] out.old)) result out.new }
 {

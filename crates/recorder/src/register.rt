@@ -15,6 +15,7 @@ use queue::Receive;
 use sites::Site;
 
 // Carries the event that a call raised, if any (code 0 is none), to the queue; only code 1 would meet the filter.
+#[tactic(auto, unfolding(crate::specs::Register::carried_past))]
 fn carry(site: Site, r: Receive, e: Raised, queue: &mut [u8]) -> u32
     requires { usable r queue.old ≡ true }
     ensures { RaiseMet (carried_past e site r queue.old) result queue.new }
@@ -41,6 +42,7 @@ fn emptied(d: Device, o: Emptied, queue: &mut [u8]) -> Answer
 }
 
 // Moves the oldest message to the register.
+#[tactic(auto, unfolding(crate::specs::Register::taken))]
 pub fn take(d: Device, tick: u32, send: &[u8], queue: &mut [u8]) -> Taken
     ensures { TakeMet (taken tick d (lends queue.old send.now []))
         result queue.new }
@@ -68,6 +70,7 @@ pub fn take(d: Device, tick: u32, send: &[u8], queue: &mut [u8]) -> Taken
 }
 
 // Empties the register: its message was transmitted.
+#[tactic(auto, unfolding(crate::specs::Register::finished))]
 pub fn done(d: Device, tick: u32, queue: &mut [u8]) -> Answer
     ensures { QueueMet (finished tick d (lends queue.old [] [])) result queue.new }
 {
@@ -79,6 +82,7 @@ pub fn done(d: Device, tick: u32, queue: &mut [u8]) -> Answer
 }
 
 // Empties the register, aborting its message, and purges the buffer; answers how many were purged.
+#[tactic(auto, unfolding(crate::specs::Register::aborted))]
 pub fn abort(d: Device, tick: u32, queue: &mut [u8]) -> Answer
     ensures { QueueMet (aborted tick d (lends queue.old [] [])) result queue.new }
 {

@@ -8,6 +8,7 @@ use device::{Answer, Device, state};
 use messages::Message;
 
 // Sends a message given in binary: format 0, 1 or 2, aligned identifier.
+#[tactic(auto, unfolding(crate::specs::Sending::sent))]
 pub fn send(d: Device, m: Message, send: &mut [u8]) -> Answer
     ensures { SendMet (sent m d (lends [] send.old [])) result send.new }
 {
@@ -20,6 +21,7 @@ pub fn send(d: Device, m: Message, send: &mut [u8]) -> Answer
 }
 
 // Sends the message at the front of a text, in the default format; answers the bytes used.
+#[tactic(auto, unfolding(crate::specs::Sending::text_sent))]
 pub fn send_text(d: Device, text: &[u8], send: &mut [u8]) -> Answer
     ensures { SendMet (text_sent text.now d (lends [] send.old [])) result send.new }
 {
