@@ -14,7 +14,7 @@ past_filter-met-requires c =
 pub after_raise-requires : goal.after_raise-requires
 after_raise-requires c =
     let a = c.args in
-    room_for (next_past a.d.receive (event_of a.s.site 5 a.tick _) a.queue.now) c.past_filter-met.ensures.number
+    room_for (next_past a.d.receive (event_of a.s.site _ a.tick _) a.queue.now) c.past_filter-met.ensures.number
 
 pub returns : goal.returns
 returns c =
