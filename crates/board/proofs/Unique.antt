@@ -11,7 +11,7 @@ module _ {o : Outcome} {s : List ℕ} {n m : ℕ} {t u : List ℕ} {k l : Lent} 
   -- every call; sv_send_text's used is an equation beside it, and leaves one number by `alike`
   pub unique : Called o s n t k → Called o s m u l → (n ≡ m) × (t ≡ u) × (k ≡ l)
   unique a b =
-      let state = alike a.state_bytes_lem b.state_bytes_lem in
+      let state = alike a.state_is b.state_is in
       (alike a.number b.number, state, alike a.lent_bytes b.lent_bytes)
 
   -- and with a place for a value

@@ -70,7 +70,7 @@ hands_back_lem v l = λ i. lends (same v.queue l.queue i) (same v.send l.send i)
 stays : (s : List ℕ) {k : ℕ} {d a : Device} → Bytes s → is_state s ≡ true → d ≡ device_in s → a ≡ d → Left k a s k s
 stays s {k = k} g h e w =
     let b = sym (ap state_bytes (w ∙ e) ∙ state_back s g h) in
-    record { number_is = refl; state_bytes_lem = both (λ t. s ≡ t) (is_refusal k) _ _ refl b }
+    record { number_is = refl; state_is = both (λ t. s ≡ t) (is_refusal k) _ _ refl b }
 
 module _ (x : Call) (s : List ℕ) (l : Lent) where
   -- bytes that are no state: 2, and everything stays
@@ -81,7 +81,7 @@ module _ (x : Call) (s : List ℕ) (l : Lent) where
 
     pub not_called : Called (called x s l) s 2 s l
     unfolding is_refusal
-    not_called = rw no_state (record { number = refl; state_bytes_lem = refl; lent_bytes = refl })
+    not_called = rw no_state (record { number = refl; state_is = refl; lent_bytes = refl })
 
     pub not_with : {A : Type 0} {was new : A} → CalledWith (called x s l) s was new 2 s l was
     unfolding is_refusal
@@ -110,7 +110,7 @@ module _ (x : Call) (s : List ℕ) (l : Lent) where
     settled : {k n : ℕ} {a : Device} {t : List ℕ} {m : Lent} → k ≡ o.number → a ≡ o.device
         → m ≡ hands_back (borrowed x) l o.lent → Left k a s n t → Called (called x s l) s n t m
     settled ek ea b w =
-        rw told (record { number = w.number_is ∙ ek; state_bytes_lem = w.state_bytes_lem ∙ rw (ek, ea); lent_bytes = b })
+        rw told (record { number = w.number_is ∙ ek; state_is = w.state_is ∙ rw (ek, ea); lent_bytes = b })
 
     -- and a value, or bytes
     module _ {n : ℕ} {t : List ℕ} {m : Lent} (c : Called (called x s l) s n t m) where
@@ -240,7 +240,7 @@ module _ (s : List ℕ) (code tick : ℕ) (m : Message) (q : List ℕ) where
       let is-2 = raise_impossible code tick m d l (impossible_good s h t) in
       settled (on_device (raise code tick m)) s l t refl (sym (ap (λ (o : Outcome). o.number) is-2)) refl
       (sym (ap (λ (o : Outcome). lends o.lent.queue [] []) is-2))
-      (record { number_is = refl; state_bytes_lem = refl })
+      (record { number_is = refl; state_is = refl })
 
   pub not_raised : is_possible s ≡ false → Called raising s 2 s (lends q [] [])
   not_raised h =
@@ -378,7 +378,7 @@ module _ (given s : List ℕ) (l : Lent) where
   -- a setting is missing, or too many are given
   pub open_miscounted : eqb (length given) settings_size ≡ false → Called (opened_on given s l) s 1 s l
   unfolding opened_on is_refusal
-  open_miscounted h = rw h (record { number = refl; state_bytes_lem = refl; lent_bytes = refl })
+  open_miscounted h = rw h (record { number = refl; state_is = refl; lent_bytes = refl })
 
   module _ (h : eqb (length given) settings_size ≡ true) {g : Settings} (e : g ≡ settings_in given) {r : Answer}
       (a : r ≡ answer_of (opened g l)) where
@@ -391,7 +391,7 @@ module _ (given s : List ℕ) (l : Lent) where
         let y : (opened (settings_in given) l).number ≡ 0 → ⊥ = λ x. z (number_is ∙ x) in
         let says = open_says (settings_in given) l in
         rw (h, ne_eqb _ 0 y)
-        (record { number = number_is; state_bytes_lem = rw (says.0 y); lent_bytes = says.1 })
+        (record { number = number_is; state_is = rw (says.0 y); lent_bytes = says.1 })
 
     module _ (z : r.number ≡ 0) where
       y : (opened (settings_in given) l).number ≡ 0
@@ -401,7 +401,7 @@ module _ (given s : List ℕ) (l : Lent) where
       unfolding opened_on is_refusal
       open_unkept k =
           rw (h, eq-eqb _ 0 y, ne_eqb _ state_size k)
-          (record { number = refl; state_bytes_lem = refl; lent_bytes = refl })
+          (record { number = refl; state_is = refl; lent_bytes = refl })
 
       pub open_kept : length s ≡ state_size → {t : List ℕ} → t ≡ state_bytes r.device
           → Called (opened_on given s l) s 0 t l
@@ -410,4 +410,4 @@ module _ (given s : List ℕ) (l : Lent) where
           let device = ap (λ (x : Answer). x.device) (rw e at a) in
           let lent = (open_says (settings_in given) l).1 in
           rw (h, eq-eqb _ 0 y, eq-eqb _ state_size k)
-          (record { number = sym y; state_bytes_lem = w ∙ rw (y, device); lent_bytes = lent })
+          (record { number = sym y; state_is = w ∙ rw (y, device); lent_bytes = lent })

@@ -86,7 +86,7 @@ opened_on given s l =
 -- what every call promises over the state s: its number, every byte of the state, every byte that it was lent
 pub record Called (o : Outcome) (s : List ℕ) (n : ℕ) (state : List ℕ) (lent : Lent) : Type 0 where
   pub number : n ≡ o.number
-  pub state_bytes_lem : state ≡ left o.number s (state_bytes o.device)
+  pub state_is : state ≡ left o.number s (state_bytes o.device)
   pub lent_bytes : lent ≡ o.lent
 
 -- and a call with a place for a value, in which `was` stood

@@ -13,7 +13,7 @@ left n old new = pick (is_refusal n) old new
 -- what keeping a device beside a number promises of the state s
 pub record Left (number : ℕ) (d : Device) (s : List ℕ) (n : ℕ) (state : List ℕ) : Type 0 where
   pub number_is : n ≡ number
-  pub state_bytes_lem : state ≡ left number s (state_bytes d)
+  pub state_is : state ≡ left number s (state_bytes d)
 
 -- a message as a call is given it
 abbrev pub message : ℕ → ℕ → ℕ → ℕ → List ℕ → Message

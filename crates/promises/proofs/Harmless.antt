@@ -77,7 +77,7 @@ module _ (ns : List ℕ) (d : Device) (l : Lent) where
   -- a refusal beside k zero bytes
   refused_bytes : (n k : ℕ) → among n ns ≡ true → H (ends n 0 (replicate k 0) d l)
   refused_bytes n k h = record {
-    is_listed_lem = h;
+    in_list = h;
     device_kept = λ e. refl;
     bytes_kept = λ e. refl;
     zero_bytes = λ e. zeros_zero k;
@@ -89,7 +89,7 @@ module _ (ns : List ℕ) (d : Device) (l : Lent) where
 
   no_refusal : (o : Outcome) → among o.number ns ≡ true → is_refusal o.number ≡ false → H o
   no_refusal o h z = record {
-    is_listed_lem = h;
+    in_list = h;
     device_kept = λ e. absurd (apart (sym e ∙ z));
     bytes_kept = λ e. absurd (apart (sym e ∙ z));
     zero_bytes = λ e. absurd (apart (sym e ∙ z));
@@ -151,7 +151,7 @@ module _ (d : Device) (l : Lent) where
       let g = raised_met d.shared d.receive code tick m l.queue in
       both (H raise_numbers d l) (good_send d.send) _ _
       (record {
-        is_listed_lem = g.number_in;
+        in_list = g.number_in;
         device_kept = λ x. ap (λ (r : Receive). with_receive d r) (g.receive_kept x);
         bytes_kept = λ x. ap (λ (t : List ℕ). with_queue l t) (g.table_kept x);
         zero_bytes = λ x. refl;
@@ -382,7 +382,7 @@ module _ (d : Device) (l : Lent) where
     refused_text : (n used : ℕ) → among n text_numbers ≡ true → used ≡ beside_send (send_text text) n
         → T (ends n used [] d l)
     refused_text n used h u = record {
-      is_listed_lem = h;
+      in_list = h;
       device_kept = λ x. refl;
       bytes_kept = λ x. refl;
       zero_bytes = λ x. refl;
@@ -392,7 +392,7 @@ module _ (d : Device) (l : Lent) where
     taken_text : (v : ℕ) (e : Device) (m : Lent) → T (ends 0 v [] e m)
     unfolding is_refusal
     taken_text v e m = record {
-      is_listed_lem = refl;
+      in_list = refl;
       device_kept = λ x. absurd (apart (sym x));
       bytes_kept = λ x. absurd (apart (sym x));
       zero_bytes = λ x. refl;

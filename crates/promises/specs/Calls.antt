@@ -54,7 +54,7 @@ outcome (on_align x) d l = print_outcome x d l
 -- demand 1 of an outcome: its number is among ns, and a refusal leaves device and lent bytes and answers zero bytes
 -- and the value that stands beside it
 pub record Harmless (ns : List ℕ) (value : ℕ → ℕ) (d : Device) (l : Lent) (o : Outcome) : Type 0 where
-  pub is_listed_lem : among o.number ns ≡ true
+  pub in_list : among o.number ns ≡ true
   pub device_kept : is_refusal o.number ≡ true → o.device ≡ d
   pub bytes_kept : is_refusal o.number ≡ true → o.lent ≡ l
   pub zero_bytes : is_refusal o.number ≡ true → all_zero o.bytes ≡ true
