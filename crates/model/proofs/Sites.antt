@@ -25,7 +25,7 @@ use Rattle.model.specs.Inbox.{Kept, keeps, Inbox}
 use Rattle.model.specs.Outbox.{Outbox, SendCall, raised_if, aborts, posts}
 use Rattle.model.specs.Box.{Box, fresh, Step, DeviceCall, raise, set_mode, set_format, set_site, does, Call}
 use Rattle.model.specs.Box.{on_device, on_receive, on_send, on_align, step, Asked, run}
-use Rattle.model.specs.Promised.{recorded, sets_site, site_after, site_before, Carries, SitesCarried}
+use Rattle.model.specs.Promised.{sets_site, site_after, site_before, Carries, SitesCarried}
 use Rattle.model.proofs.Lasting.{IfAny, Turns, step_turns}
 use Rattle.model.proofs.Posting.{posts_is}
 

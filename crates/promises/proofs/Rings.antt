@@ -1,6 +1,6 @@
 -- A ring that holds slots of w bytes, as a list: what a store behind its newest and a step past its oldest do to
 -- what it holds.
-use Prim.Native.Nat.{ℕ, ◌+◌, ◌*◌, ◌-◌, ◌%◌, ◌≤◌, ◌<◌}
+use Prim.Native.Nat.{ℕ, ◌+◌, ◌*◌, ◌%◌, ◌≤◌, ◌<◌}
 use mathlib.Core.Path.{◌≡◌}
 use mathlib.Core.Bool.{true}
 use mathlib.Core.List.{List, [], ◌∷◌, ◌++◌}
@@ -9,7 +9,7 @@ use native.Mathlib.Omega.{arith}
 use lib.ListN.{length}
 use borrow.Author.Tests.{lt-ltb, le-leb}
 use Rattle.common.specs.Rings.{good_ring, slot_of, with_one_more, without_oldest}
-use Rattle.common.specs.Slots.{slot, store, ring}
+use Rattle.common.specs.Slots.{slot, store}
 use Rattle.common.specs.declared.Ring.{Ring}
 use Rattle.common.proofs.RingFacts.{RingFacts, slot_inside}
 use Rattle.common.proofs.Slots.{store_length, ring_rest, ring_store}
