@@ -263,11 +263,11 @@ module _ (s : List ℕ) (h : is_possible s ≡ true) {d : Device} (e : d ≡ dev
   raise_called {number} {next = next} g a w =
       let x = on_device (raise code tick m) in
       let l = lends q [] [] in
-      let built-is = built (next_by d.shared d.receive code tick m q) g.number a in
+      let built_is = built (next_by d.shared d.receive code tick m q) g.number a in
       let device = ap (λ (o : Outcome). o.device) able in
       let moves = subst (λ (y : Device). Counts d y) device (raise_moves d l code tick m) in
-      let left = counted_left s e (with_receive d met.receive) moves (ap (λ (r : Receive). r.ring.count) built-is)
-      (ap (λ (r : Receive). r.pending) built-is) w in
+      let left = counted_left s e (with_receive d met.receive) moves (ap (λ (r : Receive). r.ring.count) built_is)
+      (ap (λ (r : Receive). r.pending) built_is) w in
       settled x s l (possible_state s h) e (g.number ∙ sym (ap (λ (o : Outcome). o.number) able)) (sym device)
       (ap (λ (t : List ℕ). lends t [] []) g.table ∙ sym (ap (λ (o : Outcome). lends o.lent.queue [] []) able))
       left

@@ -107,8 +107,8 @@ sum_of_bytes s l xs ty e bound =
     let total = sum s (map asked xs) bound in
     let reads = ap length h.read ∙ length-map b.read kept_bytes in
     let queues = ap length h.stands.inbox.events.slots ∙ length-map b.queue kept_bytes in
-    let lost-read = ap lost_bytes h.read ∙ lost_bytes_lem b.read c.read in
-    let lost-queued = ap lost_bytes h.stands.inbox.events.slots ∙ lost_bytes_lem b.queue c.queue in
+    let lost_read = ap lost_bytes h.read ∙ lost_bytes_lem b.read c.read in
+    let lost_queued = ap lost_bytes h.stands.inbox.events.slots ∙ lost_bytes_lem b.queue c.queue in
     let waits = h.stands.inbox.pending in
     omega arith
 

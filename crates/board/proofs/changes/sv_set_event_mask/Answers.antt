@@ -18,6 +18,6 @@ leave-requires c =
 pub returns : goal.returns
 unfolding outcome borrowed
 returns c =
-    let set-event-mask = c.set_event_mask-r in
+    let set_event_mask = c.set_event_mask-r in
     is_called _ _ _ (sym c.is_state.ensures ∙ c.if-not-is_state.false)
-    c.device_in-d.ensures c.leave.ensures set-event-mask.ensures
+    c.device_in-d.ensures c.leave.ensures set_event_mask.ensures

@@ -18,6 +18,6 @@ leave-requires c =
 pub returns : goal.returns
 unfolding outcome borrowed
 returns c =
-    let set-filter = c.set_filter-r in
+    let set_filter = c.set_filter-r in
     is_called _ _ _ (sym c.is_state.ensures ∙ c.if-not-is_state.false)
-    c.device_in-d.ensures c.leave.ensures set-filter.ensures
+    c.device_in-d.ensures c.leave.ensures set_filter.ensures

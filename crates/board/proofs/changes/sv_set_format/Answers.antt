@@ -18,6 +18,6 @@ leave-requires c =
 pub returns : goal.returns
 unfolding outcome borrowed
 returns c =
-    let set-format = c.set_format-r in
+    let set_format = c.set_format-r in
     queue_called _ _ _ (sym c.is_state.ensures ∙ c.if-not-is_state.false)
-    c.device_in-d.ensures c.leave.ensures set-format.ensures
+    c.device_in-d.ensures c.leave.ensures set_format.ensures

@@ -18,6 +18,6 @@ leave-requires c =
 pub returns : goal.returns
 unfolding outcome borrowed
 returns c =
-    let send-text = c.send_text-r in
+    let send_text = c.send_text-r in
     used_called _ _ _ (sym c.is_state.ensures ∙ c.if-not-is_state.false)
-    c.device_in-d.ensures c.leave.ensures send-text.ensures
+    c.device_in-d.ensures c.leave.ensures send_text.ensures
