@@ -7,62 +7,48 @@ mod sending;
 
 ghost use Rattle.std.specs.Prelude.{◌≤◌, ◌<◌};
 
-use device::Answer;
+use device::Device;
+use digits::Line;
 use messages::records::MESSAGE;
-use sending::Step;
+use outbox::TextSent;
 
 // The bytes used of those there are: where none were used, as on refusal 6, there is nothing left to send.
 fn used_of(used: usize, length: usize) -> usize
     ensures { (result ≤ length) × (0 < length → 0 < result) }
 {
-    if used == 0 {
-        return length;
-    }
-    if length < used {
-        return length;
-    }
-    used
+    if used == 0 { length } else { used.min(length) }
 }
 
 // Sends the texts one behind the other: what follows the bytes used is handed on as a part.
-fn run(rt: &impl Print, mut step: Step, texts: &[u8]) {
-    let mut send = [0u8; MESSAGE];
-    let mut lines = [0u8; page::ROOM];
-    let mut rest = &texts[0..];
-    let mut at: usize = 0;
-    while 0 < rest.len() {
-        step = sending::send_one(step.device, rest, &mut send);
-        at = page::put_line(rt, &mut lines, at, step.line);
-        let used = used_of(step.used, rest.len());
-        rest = &rest[used..];
+fn run(rt: &impl Print, mut device: Device, texts: &[u8]) {
+    let mut send = [0; MESSAGE];
+    let mut page = Line::new();
+    let mut rest = texts;
+    while !rest.is_empty() {
+        let TextSent { used, sent } = recorder::sending::send_text(&mut device, rest, &mut send);
+        let line = match sent.and_then(|()| sending::take(&mut device, &send)) {
+            Ok(bytes) => show::record_line(bytes),
+            Err(why) => show::refused_line(why.number(), used),
+        };
+        page::make_room(rt, &mut page);
+        page.text(line.as_bytes());
+        rest = &rest[used_of(used, rest.len())..];
     }
-    show::write_front(rt, &lines, at);
+    show::write_line(rt, &page);
 }
 
-fn say_no_device(rt: &impl Print) {
-    show::write_text(rt, b"no device can be opened\n");
-}
-
-// Runs on a device, where one was opened.
-fn start(rt: &impl Print, opened: Answer, texts: &[u8]) {
-    if opened.number != 0 {
-        say_no_device(rt);
-        return;
-    }
-    run(rt, sending::before(opened.device), texts);
-}
-
+// Runs on a device, where one can be opened.
 fn send_all(rt: &impl Print, texts: &[u8]) {
-    start(rt, sending::open(), texts);
+    match sending::open() {
+        Ok(device) => run(rt, device, texts),
+        Err(_) => show::write_text(rt, b"no device can be opened\n"),
+    }
 }
 
 fn main(rt: HostRuntime) {
-    let mut text = [0u8; input::ROOM];
-    let got = input::read_input(&mut rt.stdin(), &mut text);
-    if got.failed {
-        show::write_text(&rt, b"the input cannot be read\n");
-        return;
+    let mut text = [0; input::ROOM];
+    match input::read_input(&mut rt.stdin(), &mut text) {
+        Ok(n) => send_all(&rt, &text[..n]),
+        Err(_) => show::write_text(&rt, b"the input cannot be read\n"),
     }
-    let n = got.length;
-    send_all(&rt, &text[0..n]);
 }

@@ -1,18 +1,11 @@
-// One message text, sent and taken again.
-use device::{Answer, Device};
+// The device that the texts are sent to, and the message of a text that was sent, taken again.
+use common::refusals::Refusal;
+use device::Device;
 use events::records::EVENT;
 use messages::records::MESSAGE;
-use recorder::{Taken, register};
+use recorder::register;
 use settings::Settings;
-use show::Line;
-
-// The line of a text, the bytes used, and the device with its send buffer emptied.
-#[derive(Clone, Copy)]
-pub struct Step {
-    pub line: Line,
-    pub used: usize,
-    pub device: Device,
-}
+use sites::Site;
 
 // Mode 0, Align 0, MaskActive 0; no event is recorded; one place in each ring is enough.
 fn settings() -> Settings {
@@ -27,58 +20,19 @@ fn settings() -> Settings {
         queue: 1,
         tx: 1,
         buffer: 1,
-        site: sites::records::no_site(),
+        site: Site::default(),
     }
 }
 
 // Opens a device; no byte of the tables is written, so that others are lent to the calls.
-pub fn open() -> Answer {
-    device::opening::open(settings(), &[0u8; EVENT], &[0u8; MESSAGE])
+pub fn open() -> Result<Device, Refusal> {
+    device::opening::open(settings(), &[0; EVENT], &[0; MESSAGE])
 }
 
-fn step_of(line: Line, used: usize, d: Device) -> Step {
-    Step {
-        line: line,
-        used: used,
-        device: d,
-    }
-}
-
-// The step before the first text.
-pub fn before(d: Device) -> Step {
-    let b = [0u8; 40];
-    let line = Line {
-        bytes: b,
-        length: 0,
-    };
-    step_of(line, 0, d)
-}
-
-fn refused(number: u32, used: usize, d: Device) -> Step {
-    step_of(show::refused_line(number, show::counted(used)), used, d)
-}
-
-// Empties the register, so that the next message can be taken; no event is recorded, so that any queue will do.
-fn finish(taken: Taken, used: usize) -> Step {
-    if taken.number != 0 {
-        return refused(taken.number, used, taken.device);
-    }
-    let finished = register::done(taken.device, 0, &mut [0u8; EVENT]);
-    let b = taken.bytes;
-    step_of(show::record_line(b), used, finished.device)
-}
-
-// Takes the message of a text that was sent, so that the buffer is empty again.
-fn take(sent: Answer, send: &[u8]) -> Step {
-    if sent.number != 0 {
-        return refused(sent.number, sent.value, sent.device);
-    }
-    let taken = register::take(sent.device, 0, send, &mut [0u8; EVENT]);
-    finish(taken, sent.value)
-}
-
-// Sends the text at the front, and takes its message.
-pub fn send_one(d: Device, text: &[u8], send: &mut [u8]) -> Step {
-    let sent = recorder::sending::send_text(d, text, send);
-    take(sent, send)
+// Takes the message that was sent and empties the register, so that the next one can be sent; no event is recorded, so
+// that any queue will do.
+pub fn take(d: &mut Device, send: &[u8]) -> Result<[u8; MESSAGE], Refusal> {
+    let bytes = register::take(d, 0, send, &mut [0; EVENT])?;
+    register::done(d, 0, &mut [0; EVENT])?;
+    Ok(bytes)
 }

@@ -2,7 +2,7 @@
 use mathlib.Core.Path.{◌≡◌, refl, ◌∙◌}
 use mathlib.Core.Bool.{Bool, true, false, ◌&&◌, ◌||◌}
 use mathlib.Core.List.{List, [], ◌∷◌, ◌++◌}
-use mathlib.Core.Option.{Option, none, some}
+use Rattle.std.specs.Prelude.{Option, Some, None}
 use Prim.Native.Nat.{ℕ, zero, suc, ◌≤◌, ◌<◌}
 use native.Mathlib.Omega.{arith}
 use lib.ListN.{length, length-append, get_or}
@@ -94,8 +94,8 @@ Kept m = All Word (m.header.id ∷ m.header.format ∷ m.header.rtr ∷ m.header
 
 -- zeros, or a good message
 register_words : (held : Bool) (m : Message) (o : Option Message) → Register held m o → Kept m
-register_words held m none (e, f) = rw f ((omega arith, (omega arith, (omega arith, (omega arith, tt)))), refl)
-register_words held m (some n) (e, f, sound) =
+register_words held m None (e, f) = rw f ((omega arith, (omega arith, (omega arith, (omega arith, tt)))), refl)
+register_words held m (Some n) (e, f, sound) =
     let r = good_refusal n sound.whole in
     let g = good_header_lem n.header r in
     let id = good_id n.header r in

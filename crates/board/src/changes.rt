@@ -5,6 +5,8 @@ ghost use Rattle.model.specs.Inbox.{set_filter, set_event_mask};
 ghost use Rattle.model.specs.Box.{on_device, on_receive, set_mode, set_format, set_site};
 ghost use Rattle.board.specs.Board.{called, Called};
 
+use crate::changing::change;
+use recorder::changes;
 use sites::Site;
 
 // Sets the mode.
@@ -14,12 +16,7 @@ pub extern "C" fn sv_set_mode(state: &mut [u8], mode: u32, tick: u32, queue: &mu
         (lends queue.old [] []) in
         Called o state.old result state.new (lends queue.new [] []) }
 {
-    if !kept::state::is_state(state) {
-        return 2;
-    }
-    let d = kept::state::device_in(state);
-    let r = recorder::changes::set_mode(d, mode, tick, queue);
-    kept::handing::leave(state, r.number, r.device)
+    change(state, queue, |d, q| changes::set_mode(d, mode, tick, q))
 }
 
 // Sets the default format.
@@ -29,12 +26,7 @@ pub extern "C" fn sv_set_format(state: &mut [u8], format: u32, tick: u32, queue:
         (lends queue.old [] []) in
         Called o state.old result state.new (lends queue.new [] []) }
 {
-    if !kept::state::is_state(state) {
-        return 2;
-    }
-    let d = kept::state::device_in(state);
-    let r = recorder::changes::set_format(d, format, tick, queue);
-    kept::handing::leave(state, r.number, r.device)
+    change(state, queue, |d, q| changes::set_format(d, format, tick, q))
 }
 
 // Sets the site of later events; its offset is a 32-bit number in two's complement.
@@ -44,16 +36,8 @@ pub extern "C" fn sv_set_site(state: &mut [u8], offset: u32, second: u64) -> u32
         (lends [] [] []) in
         Called o state.old result state.new (lends [] [] []) }
 {
-    if !kept::state::is_state(state) {
-        return 2;
-    }
-    let d = kept::state::device_in(state);
-    let site = Site {
-        offset: offset,
-        second: second,
-    };
-    let r = recorder::changes::set_site(d, site);
-    kept::handing::leave(state, r.number, r.device)
+    let site = Site { offset, second };
+    change(state, &mut [], |d, _| changes::set_site(d, site))
 }
 
 // Sets code and mask of the filter.
@@ -62,12 +46,7 @@ pub extern "C" fn sv_set_filter(state: &mut [u8], code: u32, mask: u32) -> u32
     ensures { let o : Outcome = called (on_receive (set_filter code mask)) state.old (lends [] [] []) in
         Called o state.old result state.new (lends [] [] []) }
 {
-    if !kept::state::is_state(state) {
-        return 2;
-    }
-    let d = kept::state::device_in(state);
-    let r = recorder::changes::set_filter(d, code, mask);
-    kept::handing::leave(state, r.number, r.device)
+    change(state, &mut [], |d, _| changes::set_filter(d, code, mask))
 }
 
 // Sets the event mask.
@@ -76,10 +55,5 @@ pub extern "C" fn sv_set_event_mask(state: &mut [u8], events: u32) -> u32
     ensures { let o : Outcome = called (on_receive (set_event_mask events)) state.old (lends [] [] []) in
         Called o state.old result state.new (lends [] [] []) }
 {
-    if !kept::state::is_state(state) {
-        return 2;
-    }
-    let d = kept::state::device_in(state);
-    let r = recorder::changes::set_event_mask(d, events);
-    kept::handing::leave(state, r.number, r.device)
+    change(state, &mut [], |d, _| changes::set_event_mask(d, events))
 }

@@ -5,6 +5,8 @@ ghost use Rattle.model.specs.Box.{on_align, print_message_record, print_event_re
 ghost use Rattle.kept.specs.Handing.{message};
 ghost use Rattle.board.specs.Board.{called, CalledWith};
 
+use common::refusals::Refusal;
+
 // Prints a message record.
 #[unsafe(no_mangle)]
 pub extern "C" fn sv_print_message_record(
@@ -18,13 +20,11 @@ pub extern "C" fn sv_print_message_record(
         CalledWith o state.now length.old o.value result state.now
         (lends [] [] out.new) length.new }
 {
-    if !kept::state::is_state(state) {
-        return 2;
-    }
-    let d = kept::state::device_in(state);
-    let r = recorder::printing::print_message_record(d, s, out);
-    kept::handing::hand(length, r.number, r.length);
-    r.number
+    let Some(d) = kept::state::device_in(state) else {
+        return Refusal::NotPossible.number();
+    };
+    let printed = recorder::printing::print_message_record(d, s, out);
+    kept::handing::hand(length, printed)
 }
 
 // Prints an event record.
@@ -40,13 +40,11 @@ pub extern "C" fn sv_print_event_record(
         CalledWith o state.now length.old o.value result state.now
         (lends [] [] out.new) length.new }
 {
-    if !kept::state::is_state(state) {
-        return 2;
-    }
-    let d = kept::state::device_in(state);
-    let r = recorder::printing::print_event_record(d, s, out);
-    kept::handing::hand(length, r.number, r.length);
-    r.number
+    let Some(d) = kept::state::device_in(state) else {
+        return Refusal::NotPossible.number();
+    };
+    let printed = recorder::printing::print_event_record(d, s, out);
+    kept::handing::hand(length, printed)
 }
 
 // Prints a message given alone: raw identifier, either mode.
@@ -66,12 +64,10 @@ pub extern "C" fn sv_print_message(
         CalledWith o state.now length.old o.value result state.now
         (lends [] [] out.new) length.new }
 {
-    if !kept::state::is_state(state) {
-        return 2;
-    }
-    let d = kept::state::device_in(state);
+    let Some(d) = kept::state::device_in(state) else {
+        return Refusal::NotPossible.number();
+    };
     let m = kept::handing::message(id, format, rtr, dlc, bytes);
-    let r = recorder::printing::print_message(d, m, out);
-    kept::handing::hand(length, r.number, r.length);
-    r.number
+    let printed = recorder::printing::print_message(d, m, out);
+    kept::handing::hand(length, printed)
 }

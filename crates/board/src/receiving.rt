@@ -8,7 +8,8 @@ ghost use Rattle.kept.specs.State.{device_in};
 ghost use Rattle.kept.specs.Handing.{message};
 ghost use Rattle.board.specs.Board.{called, Called, CalledWith};
 
-use common::rings;
+use common::refusals::Refusal;
+use events::Raise;
 use events::records::EVENT;
 
 // Raises an event; the state is judged where it stands, so the inbox need not judge it again.
@@ -28,15 +29,18 @@ pub extern "C" fn sv_raise(
         state.old (lends queue.old [] []) in
         Called o state.old result state.new (lends queue.new [] []) }
 {
-    if !kept::state::is_possible(state) {
-        return 2;
+    let Some(mut d) = kept::state::possible_device_in(state) else {
+        return Refusal::NotPossible.number();
+    };
+    let frame = kept::handing::message(id, format, rtr, dlc, bytes);
+    let event = Raise { code, tick, frame };
+    match inbox::raising::raise_possible(d.shared, &mut d.receive, event, queue) {
+        Err(refusal) => refusal.number(),
+        Ok(met) => {
+            kept::handing::leave_counted(state, d.receive);
+            met.number()
+        }
     }
-    let d = kept::state::device_in(state);
-    let m = kept::handing::message(id, format, rtr, dlc, bytes);
-    let receive = d.receive;
-    let number = inbox::raising::raise_possible(d.shared, receive, code, tick, m, queue);
-    let next = queue::recording::after_raise(receive, number);
-    kept::handing::leave_counted(state, number, next.ring.count, next.pending)
 }
 
 // Reads the oldest event as its bytes.
@@ -46,19 +50,17 @@ pub extern "C" fn sv_read_record(state: &mut [u8], queue: &[u8], out: &mut [u8; 
         CalledWith o state.old out.old o.bytes result state.new
         (lends queue.now [] []) out.new }
 {
-    if !kept::state::is_state(state) {
-        return 2;
+    let Some(mut d) = kept::state::device_in(state) else {
+        return Refusal::NotPossible.number();
+    };
+    match recorder::receiving::read_record(&mut d, queue) {
+        Err(refusal) => refusal.number(),
+        Ok(event) => {
+            kept::handing::leave_advanced(state, d.receive.ring);
+            *out = event;
+            0
+        }
     }
-    let d = kept::state::device_in(state);
-    let r = recorder::receiving::read_record(d, queue);
-    let b = r.bytes;
-    kept::handing::hand_event(out, r.number, b);
-    kept::handing::leave_advanced(
-        state,
-        r.number,
-        r.device.receive.ring.first,
-        r.device.receive.ring.count,
-    )
 }
 
 // Reads the oldest event as text.
@@ -74,18 +76,17 @@ pub extern "C" fn sv_read_text(
         CalledWith o state.old length.old o.value result state.new
         (lends queue.now [] out.new) length.new }
 {
-    if !kept::state::is_state(state) {
-        return 2;
+    let Some(mut d) = kept::state::device_in(state) else {
+        return Refusal::NotPossible.number();
+    };
+    match recorder::receiving::read_text(&mut d, queue, out) {
+        Err(refusal) => refusal.number(),
+        Ok(n) => {
+            kept::handing::leave_advanced(state, d.receive.ring);
+            *length = n;
+            0
+        }
     }
-    let d = kept::state::device_in(state);
-    let r = recorder::receiving::read_text(d, queue, out);
-    kept::handing::hand(length, r.number, r.value);
-    kept::handing::leave_advanced(
-        state,
-        r.number,
-        r.device.receive.ring.first,
-        r.device.receive.ring.count,
-    )
 }
 
 // The number of a look at position p.
@@ -94,11 +95,10 @@ pub extern "C" fn sv_look_number(state: &[u8], queue: &[u8], p: u32) -> u32
     ensures { let o : Outcome = called (on_receive (look p)) state.now (lends queue.now [] []) in
         Called o state.now result state.now (lends queue.now [] []) }
 {
-    if !kept::state::is_state(state) {
-        return 2;
-    }
-    let d = kept::state::device_in(state);
-    recorder::receiving::look_number(d, queue, p)
+    let Some(d) = kept::state::device_in(state) else {
+        return Refusal::NotPossible.number();
+    };
+    kept::handing::number(recorder::receiving::check_look(d, queue, p))
 }
 
 // A look at position p: where the slot begins in the caller's own table.
@@ -109,16 +109,13 @@ pub extern "C" fn sv_look(state: &[u8], queue: &[u8], p: u32, offset: &mut usize
         (looked_at (device_in state.now).receive queue.now p) result state.now
         (lends queue.now [] []) offset.new }
 {
-    if !kept::state::is_state(state) {
-        return 2;
+    let Some(d) = kept::state::device_in(state) else {
+        return Refusal::NotPossible.number();
+    };
+    if let Err(refusal) = recorder::receiving::check_look(d, queue, p) {
+        return refusal.number();
     }
-    let d = kept::state::device_in(state);
-    let number = recorder::receiving::look_number(d, queue, p);
-    if number != 0 {
-        return number;
-    }
-    let ring = d.receive.ring;
-    *offset = queue::channel::SLOT * (rings::slot_of(ring, p) as usize);
+    *offset = d.receive.ring.place::<EVENT>(p);
     0
 }
 
@@ -129,11 +126,9 @@ pub extern "C" fn sv_identifiers_through(state: &[u8], format: u32, count: &mut 
         CalledWith o state.now count.old o.value result state.now (lends [] [] [])
         count.new }
 {
-    if !kept::state::is_state(state) {
-        return 2;
-    }
-    let d = kept::state::device_in(state);
-    let r = recorder::receiving::identifiers_through(d, format);
-    kept::handing::hand_number(count, r.number, r.count);
-    r.number
+    let Some(d) = kept::state::device_in(state) else {
+        return Refusal::NotPossible.number();
+    };
+    let through = recorder::receiving::identifiers_through(d, format);
+    kept::handing::hand(count, through)
 }

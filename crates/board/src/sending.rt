@@ -6,6 +6,10 @@ ghost use Rattle.model.specs.Box.{on_send};
 ghost use Rattle.kept.specs.Handing.{message};
 ghost use Rattle.board.specs.Board.{called, Called};
 
+use crate::changing::change;
+use common::refusals::Refusal;
+use recorder::sending;
+
 // Sends a message given in binary.
 #[unsafe(no_mangle)]
 pub extern "C" fn sv_send(
@@ -21,13 +25,8 @@ pub extern "C" fn sv_send(
         state.old (lends [] send.old []) in
         Called o state.old result state.new (lends [] send.new []) }
 {
-    if !kept::state::is_state(state) {
-        return 2;
-    }
-    let d = kept::state::device_in(state);
     let m = kept::handing::message(id, format, rtr, dlc, bytes);
-    let r = recorder::sending::send(d, m, send);
-    kept::handing::leave(state, r.number, r.device)
+    change(state, send, |d, table| sending::send(d, m, table))
 }
 
 // Sends the message at the front of a text; the bytes used are answered at every call.
@@ -43,12 +42,11 @@ pub extern "C" fn sv_send_text(
         Called o state.old result state.new (lends [] send.new [])
         × (used.new ≡ o.value) }
 {
-    if !kept::state::is_state(state) {
+    let Some(mut d) = kept::state::device_in(state) else {
         *used = 0;
-        return 2;
-    }
-    let d = kept::state::device_in(state);
-    let r = recorder::sending::send_text(d, text, send);
-    *used = r.value;
-    kept::handing::leave(state, r.number, r.device)
+        return Refusal::NotPossible.number();
+    };
+    let text = sending::send_text(&mut d, text, send);
+    *used = text.used;
+    kept::handing::leave(state, d, text.sent)
 }

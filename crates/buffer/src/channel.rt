@@ -1,95 +1,84 @@
-// A send channel and its table, possible or not; the channel with one part exchanged.
-ghost use Rattle.std.specs.Prelude.{◌≡◌, ◌≤◌, ◌<◌};
-ghost use Rattle.common.specs.Rings.{most_slots};
-ghost use Rattle.buffer.specs.Channel.{good_send, send_fits, with_ring, after_take, after_done, after_abort};
+// A send channel and its table, possible or not; what a take, a done and an abort leave of it.
+ghost use Rattle.std.specs.Prelude.{◌≡◌, true, ◌+◌, ◌*◌, ◌≤◌, ◌<◌, length};
+ghost use Rattle.common.specs.Rings.{most_slots, slot_of, with_one_more};
+ghost use Rattle.common.specs.Slots.{store};
+ghost use Rattle.messages.specs.Records.{message_size, message_bytes};
+ghost use Rattle.buffer.specs.Channel.{good_send, send_fits, oldest, with_ring, after_take, after_done, after_abort};
 
 use crate::Send;
-use common::{Ring, rings};
 use messages::Message;
+use settings::channel::Channel;
 
 // The bytes of a slot, and the most slots.
 pub const SLOT: usize = messages::records::MESSAGE;
 
 pub const LIMIT: u32 = 1024;
 
-// Settings and numbers that a send channel can have.
-#[tactic(auto, unfolding(crate::specs::Channel::good_send))]
-pub fn is_send(s: Send) -> bool
-    ensures { result ≡ good_send s }
-{
-    if !settings::txmode::is_tx(s.tx) {
-        return false;
-    }
-    let ring = s.ring;
-    if !rings::is_ring(ring, LIMIT) {
-        return false;
-    }
-    if !s.held {
-        return true;
-    }
-    let m = s.message;
-    messages::records::is_good(m)
-}
+impl Channel for Send {
+    ghost good = { good_send };
 
-// A table of n bytes is long enough.
-pub fn fits(s: Send, n: usize) -> bool
-    ensures { result ≡ send_fits s n }
-{
-    let ring = s.ring;
-    SLOT * (ring.capacity as usize) <= n
-}
+    ghost fits = { send_fits };
 
-// The channel with another ring.
-pub fn with_ring(s: Send, ring: Ring) -> Send
-    ensures { result ≡ with_ring s ring }
-{
-    let m = s.message;
-    Send {
-        tx: s.tx,
-        ring: ring,
-        held: s.held,
-        message: m,
+    #[tactic(auto, unfolding(crate::specs::Channel::good_send))]
+    fn is_good(self) -> bool {
+        settings::txmode::is_tx(self.tx)
+            && self.ring.is_good(LIMIT)
+            && (!self.held || self.message.is_good())
+    }
+
+    fn fits(self, n: usize) -> bool {
+        SLOT * (self.ring.capacity as usize) <= n
     }
 }
 
-// The oldest message moved to the register.
-pub fn after_take(s: Send, m: Message) -> Send
-    requires { (s.ring.capacity ≤ most_slots) × (s.ring.first < s.ring.capacity) × (0 < s.ring.count) }
-    ensures { result ≡ after_take s m }
-{
-    let ring = s.ring;
-    let next = rings::without_oldest(ring);
-    Send {
-        tx: s.tx,
-        ring: next,
-        held: true,
-        message: m,
+impl Send {
+    // The oldest slot, as a part of a table that was judged with the channel.
+    #[tactic(auto, using(crate::proofs::Laws::send_ring, crate::proofs::Laws::table_in))]
+    pub fn oldest<'a>(self, table: &'a [u8]) -> &'a [u8]
+        requires { (good_send self ≡ true) × (send_fits self (length table.now) ≡ true) }
+        ensures { result.now ≡ oldest self table.now }
+    {
+        self.ring.slot::<SLOT>(table, 0)
     }
-}
 
-// The register emptied.
-pub fn after_done(s: Send) -> Send
-    ensures { result ≡ after_done s }
-{
-    let ring = s.ring;
-    let none = messages::records::no_message();
-    Send {
-        tx: s.tx,
-        ring: ring,
-        held: false,
-        message: none,
+    // Puts a message in behind the newest: only that slot is written.
+    #[tactic(auto, using(crate::proofs::Laws::send_ring, crate::proofs::Laws::table_in))]
+    pub fn put(&mut self, m: Message, table: &mut [u8])
+        requires { (good_send self.old ≡ true) × (send_fits self.old (length table.old) ≡ true)
+            × (self.old.ring.count < self.old.ring.capacity) }
+        ensures channel { self.new ≡ with_ring self.old (with_one_more self.old.ring) }
+        ensures table { table.new
+            ≡ store message_size table.old (slot_of self.old.ring self.old.ring.count) (message_bytes m) }
+    {
+        let at = self.ring.place::<SLOT>(self.ring.count);
+        m.write(&mut table[at..at + SLOT]);
+        self.ring.fill_next();
     }
-}
 
-// The register emptied and the buffer purged: the count becomes 0.
-pub fn after_abort(s: Send) -> Send
-    ensures { result ≡ after_abort s }
-{
-    let ring = s.ring;
-    let none = Ring {
-        capacity: ring.capacity,
-        first: ring.first,
-        count: 0,
-    };
-    after_done(with_ring(s, none))
+    // The oldest message moves to the register.
+    pub fn take(&mut self, m: Message)
+        requires { (self.old.ring.capacity ≤ most_slots) × (self.old.ring.first < self.old.ring.capacity)
+            × (0 < self.old.ring.count) }
+        ensures { self.new ≡ after_take self.old m }
+    {
+        self.ring.take_oldest();
+        self.held = true;
+        self.message = m;
+    }
+
+    // The register is emptied.
+    pub fn finish(&mut self)
+        ensures { self.new ≡ after_done self.old }
+    {
+        self.held = false;
+        self.message = Message::default();
+    }
+
+    // The register is emptied and the buffer purged.
+    pub fn abort(&mut self)
+        ensures { self.new ≡ after_abort self.old }
+    {
+        self.finish();
+        self.ring.purge();
+    }
 }

@@ -6,7 +6,8 @@ pub mod channel;
 use common::Ring;
 use messages::Message;
 
-// A send channel: TxMode, its ring of messages, and the register, which holds a message or none.
+// A send channel: TxMode, its ring of messages, and the register, which holds a message or none. The message stays a
+// field of its own beside `held`: a kept state whose register is empty gives back every byte that stands in it.
 #[derive(Clone, Copy)]
 pub struct Send {
     pub tx: u32,

@@ -3,7 +3,10 @@ pub mod Among
 pub mod Bools
 pub mod Choices
 pub mod Lists
+pub mod LittleEndian
 pub mod Numbers
+pub mod Places
+pub mod Refused
 pub mod RingFacts
 pub mod Slots
 pub mod Sublists

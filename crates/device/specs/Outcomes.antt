@@ -1,7 +1,6 @@
 -- What a call answers and leaves.
 use Rattle.std.specs.Prelude.{ℕ, List, []}
 use Rattle.device.specs.declared.Device.{Device}
-use Rattle.device.specs.declared.Answer.{Answer}
 
 -- what a call is lent: the event table, the message table, the output buffer
 pub record Lent : Type 0 where
@@ -28,10 +27,3 @@ ends n v b d l = record { number = n; value = v; bytes = b; device = d; lent = l
 -- a refusal returns its number and zero values; state and bytes stay
 abbrev pub refuses : ℕ → Device → Lent → Outcome
 refuses n d l = ends n 0 [] d l
-
--- the answer of an outcome, as the code returns it
-abbrev pub answer_with : ℕ → ℕ → Device → Answer
-answer_with n v d = record { number = n; value = v; device = d }
-
-abbrev pub answer_of : Outcome → Answer
-answer_of o = answer_with o.number o.value o.device

@@ -15,11 +15,3 @@ pub struct Device {
     pub receive: Receive,
     pub send: Send,
 }
-
-// The paper's number, its value (a length, the bytes used, how many were purged) and the device after the call.
-#[derive(Clone, Copy)]
-pub struct Answer {
-    pub number: u32,
-    pub value: usize,
-    pub device: Device,
-}

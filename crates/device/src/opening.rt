@@ -1,105 +1,60 @@
 // Opening a device.
 ghost use Rattle.std.specs.Prelude.{◌≡◌, []};
-ghost use Rattle.device.specs.State.{fresh, no_device};
-ghost use Rattle.device.specs.Outcomes.{lends, answer_of};
+ghost use Rattle.common.specs.Refusals.{Answers};
+ghost use Rattle.device.specs.State.{fresh};
+ghost use Rattle.device.specs.Outcomes.{Outcome, lends};
 ghost use Rattle.device.specs.Opening.{opened};
 
-use crate::{Answer, Device, state};
+use crate::Device;
 use buffer::Send;
 use common::Ring;
+use common::refusals::Refusal;
 use filters::Filter;
+use messages::Message;
 use queue::Receive;
+use settings::channel::Channel;
 use settings::{Settings, Shared};
-
-fn fresh_receive(s: Settings) -> Receive
-    ensures { result ≡ (fresh s).receive }
-{
-    let filter = Filter {
-        active: s.active,
-        code: s.code,
-        mask: s.mask,
-    };
-    let ring = Ring {
-        capacity: s.queue,
-        first: 0,
-        count: 0,
-    };
-    Receive {
-        filter: filter,
-        events: s.events,
-        ring: ring,
-        pending: 0,
-    }
-}
-
-fn fresh_send(s: Settings) -> Send
-    ensures { result ≡ (fresh s).send }
-{
-    let ring = Ring {
-        capacity: s.buffer,
-        first: 0,
-        count: 0,
-    };
-    let none = messages::records::no_message();
-    Send {
-        tx: s.tx,
-        ring: ring,
-        held: false,
-        message: none,
-    }
-}
 
 fn fresh_device(s: Settings) -> Device
     ensures { result ≡ fresh s }
 {
-    let site = s.site;
-    let shared = Shared {
-        mode: s.mode,
-        format: s.format,
-        align: s.align,
-        site: site,
-    };
-    let receive = fresh_receive(s);
-    let send = fresh_send(s);
     Device {
-        shared: shared,
-        receive: receive,
-        send: send,
+        shared: Shared {
+            mode: s.mode,
+            format: s.format,
+            align: s.align,
+            site: s.site,
+        },
+        receive: Receive {
+            filter: Filter {
+                active: s.active,
+                code: s.code,
+                mask: s.mask,
+            },
+            events: s.events,
+            ring: Ring::empty(s.queue),
+            pending: 0,
+        },
+        send: Send {
+            tx: s.tx,
+            ring: Ring::empty(s.buffer),
+            held: false,
+            message: Message::default(),
+        },
     }
-}
-
-fn no_device() -> Device
-    ensures { result ≡ no_device }
-{
-    fresh_device(Settings {
-        mode: 0,
-        format: 0,
-        align: 0,
-        active: 0,
-        code: 0,
-        mask: 0,
-        events: 0,
-        queue: 0,
-        tx: 0,
-        buffer: 0,
-        site: sites::records::no_site(),
-    })
 }
 
 // Opens a device over two lent tables, of which no byte is written.
 #[tactic(auto, unfolding(crate::specs::Opening::opened))]
-pub fn open(s: Settings, queue: &[u8], send: &[u8]) -> Answer
-    ensures { result ≡ answer_of (opened s (lends queue.now send.now [])) }
+pub fn open(s: Settings, queue: &[u8], send: &[u8]) -> Result<Device, Refusal>
+    ensures { let o : Outcome = opened s (lends queue.now send.now []) in Answers o.number o.device result }
 {
     let d = fresh_device(s);
-    if !state::is_good(d) {
-        return state::answer(1, 0, no_device());
+    if !d.is_good() {
+        return Err(Refusal::SettingOutOfRange);
     }
-    if !queue::channel::fits(d.receive, queue.len()) {
-        return state::answer(2, 0, no_device());
+    if !d.receive.fits(queue.len()) || !d.send.fits(send.len()) {
+        return Err(Refusal::NotPossible);
     }
-    if !buffer::channel::fits(d.send, send.len()) {
-        return state::answer(2, 0, no_device());
-    }
-    state::answer(0, 0, d)
+    Ok(d)
 }

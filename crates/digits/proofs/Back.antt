@@ -10,21 +10,29 @@ use borrow.Author.Tests.{lt-ltb, le-ltb}
 use lib.Pow.{mod-pow-add}
 use Rattle.digits.specs.Digits.{hex_digit, hex}
 use Rattle.digits.specs.Reading.{byte_kind}
+use Rattle.digits.specs.declared.reading.ByteKind.{ByteKind}
+use Rattle.digits.specs.declared.reading.ByteKind.TheVariants.{Digit, Separator, End}
 use Rattle.digits.proofs.Bytes.{decimal_kind, upper_kind}
 use Rattle.digits.proofs.Steps.{pow16}
 
 -- a digit is read as its value
-pub digit_back : (d : ℕ) → d < 16 → byte_kind (hex_digit d) ≡ d
+pub digit_back : (d : ℕ) → d < 16 → byte_kind (hex_digit d) ≡ Digit d
 unfolding hex_digit
 digit_back d h =
     by_cases (dec_lt d 10)
-    (λ l. rw (lt-ltb d 10 l) (sym (decimal_kind (48 + d) (omega arith) (omega arith)) ∙ omega arith))
-    (λ l. rw (le-ltb d 10 (omega arith)) (sym (upper_kind (55 + d) (omega arith) (omega arith)) ∙ omega arith))
+    (λ l. rw (lt-ltb d 10 l) (sym (decimal_kind (48 + d) (omega arith) (omega arith)) ∙ ap Digit (omega arith)))
+    (λ l. rw (le-ltb d 10 (omega arith)) (sym (upper_kind (55 + d) (omega arith) (omega arith)) ∙ ap Digit (omega arith)))
+
+-- a number with one more digit; no other byte changes it
+abbrev pub with_kind : ℕ → ByteKind → ℕ
+with_kind acc (Digit d) = acc * 16 + d
+with_kind acc Separator = acc
+with_kind acc End = acc
 
 -- the number that digits say, behind the digits read so far
 unfoldable pub value : ℕ → List ℕ → ℕ
 value acc [] = acc
-value acc (b ∷ bs) = value (acc * 16 + byte_kind b) bs
+value acc (b ∷ bs) = value (with_kind acc (byte_kind b)) bs
 
 -- the w + 1 lowest digits: digit w, and the w below it
 pub low_suc : (w n : ℕ) → n % 16 ^ suc w ≡ n / 16 ^ w % 16 * 16 ^ w + n % 16 ^ w
@@ -49,7 +57,7 @@ unfolding value hex
 value_hex zero n acc = omega arith
 value_hex (suc w) n acc =
     let d : ℕ = n / 16 ^ w % 16 in
-    ap (λ (x : ℕ). value (acc * 16 + x) (hex w n)) (digit_back d (omega arith)) ∙ value_hex w n (acc * 16 + d)
+    ap (λ k. value (with_kind acc k) (hex w n)) (digit_back d (omega arith)) ∙ value_hex w n (acc * 16 + d)
     ∙ grown w n acc
 
 -- a number that fits its digits is read back

@@ -5,7 +5,7 @@ use mathlib.Core.Logic.{by_cases}
 use mathlib.Core.List.{List, [], ◌∷◌}
 use native.Mathlib.Decide.{dec_lt}
 use native.Mathlib.Omega.{arith}
-use lib.ListN.{length, length-append}
+use lib.ListN.{length, length-append, length-take}
 use Rattle.digits.specs.Digits.{hex, decimal_in, decimal, fields}
 use Rattle.digits.proofs.Decimal.{in_small, in_large, decimal_small, decimal_large}
 
@@ -49,6 +49,13 @@ cut_le (suc m) n =
 pub decimal_cut_le : (n : ℕ) → length (decimal n) ≤ 20
 decimal_cut_le n = cut_le 20 n
 
+-- and no less than one
+pub decimal_some : (n : ℕ) → 1 ≤ length (decimal n)
+decimal_some n =
+    by_cases (dec_lt n 10)
+    (λ l. rw (in_small 19 n l) (omega arith))
+    (λ l. omega (arith, large_length 19 n (omega arith)))
+
 -- a 32-bit number has at most ten digits
 pub decimal_length_le : (n : ℕ) → n < 2 ^ 32 → length (decimal n) ≤ 10
 decimal_length_le n h = decimal_le 9 n (omega arith)
@@ -69,3 +76,6 @@ decimal_length_two n h = decimal_le 1 n h
 -- a number from ten on has one digit more than its tenth
 pub decimal_length_suc : (n : ℕ) → 10 ≤ n → n < 2 ^ 64 → length (decimal n) ≡ length (decimal (n / 10)) + 1
 decimal_length_suc n l h = ap length (decimal_large n l h) ∙ length-append (decimal (n / 10)) ((48 + n % 10) ∷ [])
+
+-- how long a line becomes, writer by writer
+pub ruleset lengths = (length-append, length-take, hex_length, fields_length)

@@ -5,4 +5,3 @@ pub mod Steps
 pub mod Bytes
 pub mod Back
 pub mod Capped
-pub mod Answers

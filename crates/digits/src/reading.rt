@@ -2,17 +2,25 @@
 ghost use Rattle.std.specs.Prelude.{◌≡◌, ◌+◌, ◌*◌};
 ghost use Rattle.digits.specs.Reading.{byte_kind, capped};
 
-// What a byte is in a message text: the value of a digit, 16 for a separator, 17 for an end.
+// What a byte is in a message text.
+#[derive(Clone, Copy)]
+pub enum ByteKind {
+    Digit(u8),
+    Separator,
+    End,
+}
+
+// A digit in either letter case, an end (CR, LF, zero), or a separator.
 #[tactic(auto, unfolding(crate::specs::Reading::byte_kind))]
-pub fn byte_kind(b: u8) -> u8
+pub fn byte_kind(b: u8) -> ByteKind
     ensures { result ≡ byte_kind b }
 {
     match b {
-        0 | 10 | 13 => 17,
-        48..=57 => b - 48,
-        65..=70 => b - 55,
-        97..=102 => b - 87,
-        _ => 16,
+        b'\0' | b'\n' | b'\r' => ByteKind::End,
+        b'0'..=b'9' => ByteKind::Digit(b - b'0'),
+        b'A'..=b'F' => ByteKind::Digit(b - b'A' + 10),
+        b'a'..=b'f' => ByteKind::Digit(b - b'a' + 10),
+        _ => ByteKind::Separator,
     }
 }
 
@@ -20,12 +28,5 @@ pub fn byte_kind(b: u8) -> u8
 pub fn with_digit(v: u64, d: u8) -> u64
     ensures { result ≡ capped (v * 16 + d) }
 {
-    if 4294967296 <= v {
-        return 4294967296;
-    }
-    let w = v * 16 + (d as u64);
-    if w < 4294967296 {
-        return w;
-    }
-    4294967296
+    (v.min(1 << 32) * 16 + d as u64).min(1 << 32)
 }

@@ -1,8 +1,6 @@
 -- Identifiers under an Align (01, "Identifiers and filter").
-use Rattle.std.specs.Prelude.{ℕ, ◌*◌, ◌/◌, ◌%◌, ◌^◌, Bool, true, false, ◌&&◌, ◌||◌, [], ◌∷◌, get_or, ltb, leb, eqb}
+use Rattle.std.specs.Prelude.{ℕ, ◌*◌, ◌/◌, ◌%◌, ◌^◌, Bool, true, false, ◌&&◌, ◌||◌, [], ◌∷◌, get_or, ltb, leb, eqb, Option, Some, None}
 use Rattle.common.specs.Choice.{pick}
-use Rattle.ids.specs.declared.Id.{Id}
-use Rattle.ids.specs.declared.Id.TheVariants.{Good, Bad}
 
 -- bit k of n
 abbrev pub bit : ℕ → ℕ → ℕ
@@ -20,25 +18,25 @@ id_bits format = pick (eqb format 1) 11 29
 unfoldable pub id_low : ℕ → ℕ → ℕ
 id_low format align = get_or (pick (eqb format 1) (0 ∷ 0 ∷ 18 ∷ 21 ∷ []) (0 ∷ 0 ∷ 0 ∷ 3 ∷ [])) align 0
 
--- a raw identifier shown under an Align: shifted into its field; bad above its 11 or 29 bits
-unfoldable pub aligned : ℕ → ℕ → ℕ → Id
+-- a raw identifier shown under an Align: shifted into its field; none, being bad, above its 11 or 29 bits
+unfoldable pub aligned : ℕ → ℕ → ℕ → Option ℕ
 aligned align format raw =
-    pick (leb align 3 && is_format format && ltb raw (2 ^ id_bits format)) (Good (raw * 2 ^ id_low format align)) Bad
+    pick (leb align 3 && is_format format && ltb raw (2 ^ id_bits format)) (Some (raw * 2 ^ id_low format align)) None
 
--- the raw identifier of one shown under an Align: bad with a bit below or above its field
-unfoldable pub raw_of : ℕ → ℕ → ℕ → Id
+-- the raw identifier of one shown under an Align: none, being bad, with a bit below or above its field
+unfoldable pub raw_of : ℕ → ℕ → ℕ → Option ℕ
 raw_of align format shown =
     pick
     (leb align 3 && is_format format && eqb (shown % 2 ^ id_low format align) 0
     && ltb (shown / 2 ^ id_low format align) (2 ^ id_bits format))
-    (Good (shown / 2 ^ id_low format align)) Bad
+    (Some (shown / 2 ^ id_low format align)) None
 
 -- a bad identifier
-abbrev pub is_bad : Id → Bool
-is_bad (Good raw) = false
-is_bad Bad = true
+abbrev pub is_bad : Option ℕ → Bool
+is_bad (Some raw) = false
+is_bad None = true
 
 -- a good identifier's number
-abbrev pub id_number : Id → ℕ
-id_number (Good raw) = raw
-id_number Bad = 0
+abbrev pub id_number : Option ℕ → ℕ
+id_number (Some raw) = raw
+id_number None = 0

@@ -7,10 +7,15 @@ use native.Mathlib.Omega.{arith}
 use lib.ListN.{length, length-append, drop_of_length-le}
 use lib.Seq.{sets, sets-eq, slice, length-slice}
 use lib.Dec.{leb, eqb}
-use borrow.Author.Tests.{eqb-true, eq-eqb, ne_eqb}
+use borrow.Author.Tests.{eqb-true}
+use Rattle.std.specs.Prelude.{Option, Some, None}
+use Rattle.common.specs.Choice.{pick}
 use Rattle.common.specs.Numbers.{Bytes}
-use Rattle.common.specs.Refusals.{is_refusal}
+use Rattle.common.specs.Refusals.{is_refusal, refusal_number}
+use Rattle.common.specs.declared.refusals.Refusal.{Refusal}
+use Rattle.common.proofs.Refused.{counts}
 use Rattle.common.proofs.Bools.{and_left}
+use Rattle.common.proofs.Choices.{pick_is}
 use Rattle.digits.proofs.Written.{sets_append}
 use Rattle.buffer.specs.declared.Send.{Send}
 use Rattle.device.specs.declared.Device.{Device}
@@ -45,21 +50,13 @@ state_written s d l e0 e1 (e2, m) =
 
 -- ---- what a call leaves
 
--- what a lent place holds after a call, the test of its number being b
-pub kept_old : {A : Type 0} {b : Bool} (n : ℕ) (old new : A) → b ≡ is_refusal n → b ≡ true → old ≡ left n old new
-kept_old n old new e h = rw (← e, h)
+-- a refused call leaves a lent place, any other writes it
+pub kept_old : {A : Type 0} (e : Refusal) (old new : A) → left (refusal_number e) old new ≡ old
+kept_old e old new = rw (counts e)
 
-pub kept_new : {A : Type 0} {b : Bool} (n : ℕ) (old new : A) → b ≡ is_refusal n → b ≡ false → new ≡ left n old new
-kept_new n old new e h = rw (← e, h)
-
--- what is said of a state's bytes
-pub no_state : (s : List ℕ) → (length s ≡ state_size → ⊥) → is_state s ≡ false
-unfolding is_state
-no_state s h = rw (ne_eqb (length s) state_size h)
-
-pub state_tested : (s : List ℕ) (n : ℕ) → length s ≡ state_size → n ≡ word s (send_at + 16) → leb n 1 ≡ is_state s
-unfolding is_state
-state_tested s n l e = rw (e, eq-eqb (length s) state_size l)
+pub kept_new : {A : Type 0} (old new : A) → left 0 old new ≡ new
+unfolding is_refusal
+kept_new old new = refl
 
 -- a state is so many bytes long
 pub state_long : (s : List ℕ) → is_state s ≡ true → length s ≡ state_size
@@ -122,3 +119,18 @@ module _ (s : List ℕ) (g : Bytes s) (h : is_state s ≡ true) where
   transferred_written count pending x e0 e1 e2 m =
       let l : length (slice 92 100 s) ≡ 8 = length-slice 92 100 s (omega (arith, state_long s h)) in
       e2 ∙ rw (e1, counted_written count pending e0) (over_transferred (counted (device_in s) count pending) x l m)
+
+-- a device that a call leaves is kept in the bytes that stood there, refused or not
+pub kept_still : (n : ℕ) (s : List ℕ) → Bytes s → is_state s ≡ true → s ≡ left n s (state_bytes (device_in s))
+kept_still n s g h = pick_is (λ (t : List ℕ). s ≡ t) (is_refusal n) (λ e. refl) (λ e. sym (state_back s g h))
+
+-- a value that was chosen where a test holds
+pub chosen : {A : Type 0} (t : Bool) {x d : A} {o : Option A} → o ≡ pick t (Some x) None → o ≡ Some d
+    → (t ≡ true) × (d ≡ x)
+chosen true a b = (refl, cc)
+chosen false a b = absurd (cc)
+
+-- and where it does not, none is
+pub not_chosen : {A : Type 0} (t : Bool) (x : A) {o : Option A} → o ≡ pick t (Some x) None → o ≡ None → t ≡ false
+not_chosen true x a b = absurd (cc)
+not_chosen false x a b = refl

@@ -1,13 +1,15 @@
 -- What a call moves of the device, so the few numbers that it writes are all that the state needs.
-use mathlib.Core.Path.{◌≡◌, refl, sym, subst, ◌∙◌}
+use mathlib.Core.Path.{◌≡◌, refl, sym, ap, ◌∙◌}
 use mathlib.Core.List.{List}
 use Prim.Native.Nat.{ℕ}
+use Rattle.std.specs.Prelude.{Option, Some, None}
 use lib.ListN.{length}
 use lib.Dec.{ltb, eqb}
 use Rattle.common.proofs.Choices.{pick_is}
 use Rattle.filters.specs.EventMask.{mask_lets}
 use Rattle.events.specs.Records.{code_of}
 use Rattle.events.specs.declared.Event.{Event}
+use Rattle.events.specs.declared.Raise.{Raise}
 use Rattle.messages.specs.declared.Message.{Message}
 use Rattle.events.specs.Raised.{filtered, event_of}
 use Rattle.settings.specs.declared.Shared.{Shared}
@@ -20,18 +22,12 @@ use Rattle.queue.specs.declared.Receive.{Receive}
 use Rattle.buffer.specs.Channel.{good_send}
 use Rattle.outbox.specs.Refusals.{take_refusal, done_refusal, abort_refusal}
 use Rattle.outbox.specs.Calls as Outbox
-use Rattle.outbox.specs.declared.Raised.{Raised}
 use Rattle.buffer.specs.declared.Send.{Send}
-use Rattle.device.specs.Outcomes.{Lent, Outcome, answer_of}
-use Rattle.recorder.specs.Outcomes.{record_of, taken_of}
+use Rattle.device.specs.Outcomes.{Lent, Outcome}
 use Rattle.recorder.specs.Receiving.{raised, record_read, text_read}
 use Rattle.recorder.specs.Register.{carried_over, carrying, taken, finished, aborted}
 use Rattle.device.specs.declared.Device.{Device}
-use Rattle.device.specs.declared.Answer.{Answer}
-use Rattle.recorder.specs.declared.Record.{Record}
-use Rattle.recorder.specs.declared.Taken.{Taken}
-use Rattle.kept.specs.State.{device_in, counted, advanced, transferred}
-use Rattle.kept.specs.Handing.{Left}
+use Rattle.kept.specs.State.{state_bytes, device_in, counted, advanced, transferred}
 
 -- ---- what a call can move: its next device is the old one with its own numbers
 
@@ -71,11 +67,9 @@ module _ (h : Shared) (r : Receive) (t : List ℕ) where
       (λ a. meets_raises (event_of h.site code tick m))
       (λ a. refl)
 
-  carried_raises : (e : Raised) → Raises r (carried_over e h r t)
-  unfolding carried_over
-  carried_raises e =
-      pick_is (Raises r) (eqb e.code 0) (λ a. refl)
-      (λ a. meets_raises (event_of h.site e.code e.tick e.message))
+  carried_raises : (e : Option Raise) → Raises r (carried_over e h r t)
+  carried_raises None = refl
+  carried_raises (Some e) = meets_raises (event_of h.site e.code e.tick e.frame)
 
 -- a call on the send channel moves first, count and register
 abbrev Sends : Send → Outbox.Outcome → Type 0
@@ -178,55 +172,22 @@ module _ (d : Device) (l : Lent) where
       (aborted_sends d.shared d.send tick l.send))
       (λ a. refl)
 
--- ---- what the code leaves: the numbers that it writes over a state make the whole next device y
+-- ---- what the code leaves: the numbers that it writes over a state make the whole next device e
 
-module _ (s : List ℕ) {d : Device} (e : d ≡ device_in s) {k n : ℕ} {t : List ℕ} where
-  module _ (y : Device) where
-    pub counted_left : {count pending : ℕ} → Counts d y → count ≡ y.receive.ring.count
-        → pending ≡ y.receive.pending
-        → Left k (counted (device_in s) count pending) s n t → Left k y s n t
-    counted_left m c p w =
-        subst (λ (x : Device). Left k x s n t) (sym (m ∙ λ i. counted (e i) (sym c i) (sym p i))) w
+module _ (s : List ℕ) {d e : Device} {t : List ℕ} (a : d ≡ device_in s) where
+  pub counted_left : Counts d e → t ≡ state_bytes (counted (device_in s) e.receive.ring.count e.receive.pending)
+      → t ≡ state_bytes e
+  counted_left m w =
+      w ∙ ap state_bytes ((λ i. counted (sym a i) e.receive.ring.count e.receive.pending) ∙ sym m)
 
-    pub advanced_left : {first count : ℕ} → Advances d y → first ≡ y.receive.ring.first
-        → count ≡ y.receive.ring.count
-        → Left k (advanced (device_in s) first count) s n t → Left k y s n t
-    advanced_left m f c w =
-        subst (λ (x : Device). Left k x s n t) (sym (m ∙ λ i. advanced (e i) (sym f i) (sym c i))) w
+  pub advanced_left : Advances d e → t ≡ state_bytes (advanced (device_in s) e.receive.ring.first e.receive.ring.count)
+      → t ≡ state_bytes e
+  advanced_left m w =
+      w ∙ ap state_bytes ((λ i. advanced (sym a i) e.receive.ring.first e.receive.ring.count) ∙ sym m)
 
-    pub transferred_left : {count pending : ℕ} {x : Send} → Transfers d y → count ≡ y.receive.ring.count
-        → pending ≡ y.receive.pending → x ≡ y.send
-        → Left k (transferred (counted (device_in s) count pending) x) s n t → Left k y s n t
-    transferred_left m c p x w =
-        subst (λ (z : Device). Left k z s n t)
-        (sym (m ∙ λ i. transferred (counted (e i) (sym c i) (sym p i)) (sym x i))) w
-
-  -- so for each kind of answer r of an outcome o
-  module _ (o : Outcome) where
-    pub answer_advanced : {r : Answer} → Advances d o.device → r ≡ answer_of o
-        → Left k (advanced (device_in s) r.device.receive.ring.first r.device.receive.ring.count) s n t
-        → Left k r.device s n t
-    answer_advanced {r} m a w =
-        advanced_left r.device (subst (λ (x : Answer). Advances d x.device) (sym a) m) refl refl w
-
-    pub record_advanced : {r : Record} → Advances d o.device → r ≡ record_of o
-        → Left k (advanced (device_in s) r.device.receive.ring.first r.device.receive.ring.count) s n t
-        → Left k r.device s n t
-    record_advanced {r} m a w =
-        advanced_left r.device (subst (λ (x : Record). Advances d x.device) (sym a) m) refl refl w
-
-    pub answer_transferred : {r : Answer} → Transfers d o.device → r ≡ answer_of o
-        → Left k
-        (transferred (counted (device_in s) r.device.receive.ring.count r.device.receive.pending)
-        r.device.send) s n t
-        → Left k r.device s n t
-    answer_transferred {r} m a w =
-        transferred_left r.device (subst (λ (x : Answer). Transfers d x.device) (sym a) m) refl refl refl w
-
-    pub taken_transferred : {r : Taken} → Transfers d o.device → r ≡ taken_of o
-        → Left k
-        (transferred (counted (device_in s) r.device.receive.ring.count r.device.receive.pending)
-        r.device.send) s n t
-        → Left k r.device s n t
-    taken_transferred {r} m a w =
-        transferred_left r.device (subst (λ (x : Taken). Transfers d x.device) (sym a) m) refl refl refl w
+  pub transferred_left : Transfers d e
+      → t ≡ state_bytes (transferred (counted (device_in s) e.receive.ring.count e.receive.pending) e.send)
+      → t ≡ state_bytes e
+  transferred_left m w =
+      w
+      ∙ ap state_bytes ((λ i. transferred (counted (sym a i) e.receive.ring.count e.receive.pending) e.send) ∙ sym m)

@@ -1,125 +1,84 @@
-// What a call hands over and leaves: the next device and its values, unless it was refused; and its message.
-ghost use Rattle.std.specs.Prelude.{◌≡◌, true, length};
-ghost use Rattle.common.specs.Refusals.{is_refusal};
-ghost use Rattle.kept.specs.State.{state_size, device_in, is_state, counted, advanced, transferred};
-ghost use Rattle.kept.specs.Handing.{left, Left, message};
+// What a call hands over and leaves: its number, its value, and what it moved of the device.
+ghost use Rattle.std.specs.Prelude.{◌≡◌, true, length, IfOk, OnErr};
+ghost use Rattle.common.specs.Refusals.{number_in};
+ghost use Rattle.kept.specs.State.{state_size, state_bytes, device_in, is_state, counted, advanced, transferred};
+ghost use Rattle.kept.specs.Handing.{Left, message};
 
 use crate::state;
 use buffer::Send;
+use common::Ring;
+use common::refusals::Refusal;
 use device::Device;
-use events::records::EVENT;
 use ids::Header;
 use layout::{parts, words};
 use messages::Message;
-use messages::records::MESSAGE;
+use queue::Receive;
 
-// The refusals are the numbers 1 to 99.
-#[tactic(auto, unfolding(common::specs::Refusals::is_refusal))]
-fn is_refusal(number: u32) -> bool
-    ensures { result ≡ is_refusal number }
+// The number of a call that answers no value.
+pub fn number(answer: Result<(), Refusal>) -> u32
+    ensures { result ≡ number_in answer }
 {
-    if number < 1 {
-        return false;
+    match answer {
+        Ok(()) => 0,
+        Err(refusal) => refusal.number(),
     }
-    number <= 99
 }
 
-// Writes the next device into the state, unless the call was refused; answers the call's number.
-pub fn leave(state: &mut [u8], number: u32, d: Device) -> u32
+// Hands a value back, unless the call was refused; answers the call's number.
+pub fn hand<T: Copy>(place: &mut T, answer: Result<T, Refusal>) -> u32
+    ensures number { result ≡ number_in answer }
+    ensures value { IfOk answer (λ v. place.new ≡ v) }
+    ensures kept { OnErr answer (place.new ≡ place.old) }
+{
+    match answer {
+        Ok(value) => {
+            *place = value;
+            0
+        }
+        Err(refusal) => refusal.number(),
+    }
+}
+
+// Leaves the whole device, unless the call was refused; answers the call's number.
+#[tactic(auto, using(crate::proofs::Laws::kept_old, crate::proofs::Laws::kept_new))]
+pub fn leave(state: &mut [u8], d: Device, answer: Result<(), Refusal>) -> u32
     requires { length state.old ≡ state_size }
-    ensures { Left number d state.old result state.new }
+    ensures { Left (number_in answer) d state.old result state.new }
 {
-    if is_refusal(number) {
-        return number;
+    if answer.is_ok() {
+        state::write_state(state, d);
     }
-    state::write_state(state, d);
-    number
+    number(answer)
 }
 
-// The same after a raise, which can change count and pending of the queue alone.
+// Leaves what a raise can change: count and pending of the queue.
 #[tactic(auto, using(crate::proofs::Laws::state_long, crate::proofs::Laws::counted_written))]
-pub fn leave_counted(state: &mut [u8], number: u32, count: u32, pending: u32) -> u32
+pub fn leave_counted(state: &mut [u8], r: Receive)
     requires { is_state state.old ≡ true }
-    ensures { Left number (counted (device_in state.old) count pending)
-        state.old result state.new }
+    ensures { state.new ≡ state_bytes (counted (device_in state.old) r.ring.count r.pending) }
 {
-    if is_refusal(number) {
-        return number;
-    }
-    words::write_two(state, state::RECEIVE + 24, count, pending);
-    number
+    words::write_two(state, state::RECEIVE + 24, r.ring.count, r.pending);
 }
 
-// The same after a read, which changes first and count of the queue.
+// Leaves what a read can change: first and count of the queue.
 #[tactic(auto, using(crate::proofs::Laws::state_long, crate::proofs::Laws::advanced_written))]
-pub fn leave_advanced(state: &mut [u8], number: u32, first: u32, count: u32) -> u32
+pub fn leave_advanced(state: &mut [u8], ring: Ring)
     requires { is_state state.old ≡ true }
-    ensures { Left number (advanced (device_in state.old) first count)
-        state.old result state.new }
+    ensures { state.new ≡ state_bytes (advanced (device_in state.old) ring.first ring.count) }
 {
-    if is_refusal(number) {
-        return number;
-    }
-    words::write_two(state, state::RECEIVE + 20, first, count);
-    number
+    words::write_two(state, state::RECEIVE + 20, ring.first, ring.count);
 }
 
-// The same after take, done and abort: count and pending of the queue; first, count and register of the send channel.
+// Leaves what take, done and abort can change: count and pending of the queue; first, count and register of the
+// send channel.
 #[tactic(auto, using(crate::proofs::Laws::state_long, crate::proofs::Laws::transferred_written))]
-pub fn leave_transferred(state: &mut [u8], number: u32, count: u32, pending: u32, s: Send) -> u32
+pub fn leave_transferred(state: &mut [u8], r: Receive, s: Send)
     requires { is_state state.old ≡ true }
-    ensures { Left number (transferred (counted (device_in state.old) count pending) s)
-        state.old result state.new }
+    ensures { state.new ≡ state_bytes (transferred (counted (device_in state.old) r.ring.count r.pending) s) }
 {
-    if is_refusal(number) {
-        return number;
-    }
-    let ring = s.ring;
-    let m = s.message;
-    words::write_two(state, state::RECEIVE + 24, count, pending);
-    words::write_two(state, state::SEND + 8, ring.first, ring.count);
-    parts::write_register(state, state::SEND + 16, s.held, m);
-    number
-}
-
-// Hands a value back, unless the call was refused.
-pub fn hand(place: &mut usize, number: u32, value: usize)
-    ensures { place.new ≡ left number place.old value }
-{
-    if is_refusal(number) {
-        return;
-    }
-    *place = value;
-}
-
-// The same for a 32-bit number.
-pub fn hand_number(place: &mut u32, number: u32, value: u32)
-    ensures { place.new ≡ left number place.old value }
-{
-    if is_refusal(number) {
-        return;
-    }
-    *place = value;
-}
-
-// The same for an event's bytes.
-pub fn hand_event(place: &mut [u8; EVENT], number: u32, bytes: [u8; EVENT])
-    ensures { place.new ≡ left number place.old bytes }
-{
-    if is_refusal(number) {
-        return;
-    }
-    *place = bytes;
-}
-
-// The same for a message's bytes.
-pub fn hand_message(place: &mut [u8; MESSAGE], number: u32, bytes: [u8; MESSAGE])
-    ensures { place.new ≡ left number place.old bytes }
-{
-    if is_refusal(number) {
-        return;
-    }
-    *place = bytes;
+    words::write_two(state, state::RECEIVE + 24, r.ring.count, r.pending);
+    words::write_two(state, state::SEND + 8, s.ring.first, s.ring.count);
+    parts::write_register(state, state::SEND + 16, s.held, s.message);
 }
 
 // A message as a call is given it.
@@ -127,14 +86,13 @@ pub fn message(id: u32, format: u32, rtr: u32, dlc: u32, bytes: &[u8; 8]) -> Mes
     ensures { result ≡ message id format rtr dlc bytes.now }
 {
     let header = Header {
-        id: id,
-        format: format,
-        rtr: rtr,
-        dlc: dlc,
+        id,
+        format,
+        rtr,
+        dlc,
     };
-    let b = *bytes;
     Message {
-        header: header,
-        bytes: b,
+        header,
+        bytes: *bytes,
     }
 }

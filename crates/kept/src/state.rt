@@ -1,5 +1,6 @@
-// The whole state: is it one, is its device possible, the device that it stands for, and writing a device.
-ghost use Rattle.std.specs.Prelude.{◌≡◌, length};
+// The whole state: the device that it stands for, if it is one; is that device possible; and writing a device.
+ghost use Rattle.std.specs.Prelude.{◌≡◌, length, Some, None};
+ghost use Rattle.common.specs.Choice.{pick};
 ghost use Rattle.kept.specs.State.{state_size, state_bytes, device_in, is_state, is_possible};
 
 use device::Device;
@@ -12,51 +13,51 @@ pub const RECEIVE: usize = 24;
 
 pub const SEND: usize = 56;
 
-// The bytes are a state: as many, and the register is held or not.
-#[tactic(auto, unfolding(crate::specs::State::is_state))]
-pub fn is_state(s: &[u8]) -> bool
-    ensures { result ≡ is_state s.now }
-{
-    if s.len() != STATE {
-        return false;
-    }
-    words::word(s, SEND + 16) <= 1
-}
-
 // The bytes are a state whose device is possible, each part judged in place.
-#[tactic(auto, using(crate::proofs::Judged::not_long, crate::proofs::Judged::shared_out, crate::proofs::Judged::receive_out, crate::proofs::Judged::buffer_out, crate::proofs::Judged::register_said))]
-pub fn is_possible(s: &[u8]) -> bool
+#[tactic(auto, unfolding(crate::specs::State::is_possible, crate::specs::State::is_state, crate::specs::State::device_in, device::specs::State::good, buffer::specs::Channel::good_send))]
+fn is_possible(s: &[u8]) -> bool
     ensures { result ≡ is_possible s.now }
 {
-    if s.len() != STATE {
-        return false;
-    }
-    if !judging::is_shared(s, 0) {
-        return false;
-    }
-    if !judging::is_receive(s, RECEIVE) {
-        return false;
-    }
-    if !judging::is_buffer(s, SEND) {
-        return false;
-    }
-    judging::is_register(s, SEND + 16)
+    s.len() == STATE
+        && judging::is_shared(s, 0)
+        && judging::is_receive(s, RECEIVE)
+        && judging::is_buffer(s, SEND)
+        && judging::is_register(s, SEND + 16)
 }
 
-// The device that a state stands for.
+// The device that so many bytes stand for.
 #[tactic(auto, unfolding(crate::specs::State::device_in))]
-pub fn device_in(s: &[u8]) -> Device
+fn read(s: &[u8]) -> Device
     requires { length s.now ≡ state_size }
     ensures { result ≡ device_in s.now }
 {
-    let shared = parts::shared_in(s, 0);
-    let receive = parts::receive_in(s, RECEIVE);
-    let send = parts::send_in(s, SEND);
     Device {
-        shared: shared,
-        receive: receive,
-        send: send,
+        shared: parts::shared_in(s, 0),
+        receive: parts::receive_in(s, RECEIVE),
+        send: parts::send_in(s, SEND),
     }
+}
+
+// The device of a state; none where the bytes are no state: another length, or a register neither held nor not.
+#[tactic(auto, unfolding(crate::specs::State::is_state))]
+pub fn device_in(s: &[u8]) -> Option<Device>
+    ensures { result ≡ pick (is_state s.now) (Some (device_in s.now)) None }
+{
+    if s.len() != STATE || words::word(s, SEND + 16) > 1 {
+        return None;
+    }
+    Some(read(s))
+}
+
+// The device of a state that is possible, judged in place for the raise.
+#[tactic(auto, using(crate::proofs::Judged::possible_state, crate::proofs::Laws::state_long))]
+pub fn possible_device_in(s: &[u8]) -> Option<Device>
+    ensures { result ≡ pick (is_possible s.now) (Some (device_in s.now)) None }
+{
+    if !is_possible(s) {
+        return None;
+    }
+    Some(read(s))
 }
 
 // Writes the device into the state.

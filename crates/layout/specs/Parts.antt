@@ -3,6 +3,7 @@ use Rattle.std.specs.Prelude.{ℕ, ◌+◌, ◌/◌, ◌%◌, ◌^◌, Bool, Lis
 use Rattle.std.proofs.Math.Seq.{slice}
 use Rattle.common.specs.Choice.{pick}
 use Rattle.common.specs.Numbers.{bytes_of, number_of}
+use Rattle.common.specs.declared.Ring.{Ring}
 use Rattle.messages.specs.declared.Message.{Message}
 use Rattle.sites.specs.declared.Site.{Site}
 use Rattle.settings.specs.Given.{joined}
@@ -51,6 +52,9 @@ site_from s at = record { offset = word s at; second = joined (word s (at + 4)) 
 abbrev pub shared_in : List ℕ → ℕ → Shared
 shared_in s at =
     record { mode = word s at; format = word s (at + 4); align = word s (at + 8); site = site_from s (at + 12) }
+
+abbrev pub ring_in : List ℕ → ℕ → Ring
+ring_in s at = record { capacity = word s at; first = word s (at + 4); count = word s (at + 8) }
 
 abbrev pub receive_in : List ℕ → ℕ → Receive
 receive_in s at = record {

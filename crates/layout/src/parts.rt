@@ -3,7 +3,7 @@ ghost use Rattle.std.specs.Prelude.{◌≡◌, ◌++◌, ◌+◌, ◌≤◌, len
 ghost use Rattle.std.proofs.lemmas.List.Edits.{sets};
 ghost use Rattle.std.proofs.Math.Seq.{slice};
 ghost use Rattle.layout.specs.Parts.{shared_numbers, receive_numbers, send_numbers, register_bytes, word_bytes};
-ghost use Rattle.layout.specs.Parts.{site_from, shared_in, receive_in, register_in, send_in};
+ghost use Rattle.layout.specs.Parts.{site_from, shared_in, ring_in, receive_in, register_in, send_in};
 
 use crate::words;
 use buffer::Send;
@@ -20,10 +20,9 @@ pub fn site_from(s: &[u8], at: usize) -> Site
     requires { at + 12 ≤ length s.now }
     ensures { result ≡ site_from s.now at }
 {
-    let second = settings::given::joined(words::word(s, at + 4), words::word(s, at + 8));
     Site {
         offset: words::word(s, at),
-        second: second,
+        second: settings::given::joined(words::word(s, at + 4), words::word(s, at + 8)),
     }
 }
 
@@ -31,15 +30,27 @@ pub fn shared_in(s: &[u8], at: usize) -> Shared
     requires { at + 24 ≤ length s.now }
     ensures { result ≡ shared_in s.now at }
 {
-    let site = site_from(s, at + 12);
     Shared {
         mode: words::word(s, at),
         format: words::word(s, at + 4),
         align: words::word(s, at + 8),
-        site: site,
+        site: site_from(s, at + 12),
     }
 }
 
+// The numbers of a ring.
+pub fn ring_in(s: &[u8], at: usize) -> Ring
+    requires { at + 12 ≤ length s.now }
+    ensures { result ≡ ring_in s.now at }
+{
+    Ring {
+        capacity: words::word(s, at),
+        first: words::word(s, at + 4),
+        count: words::word(s, at + 8),
+    }
+}
+
+#[tactic(auto, using(crate::proofs::Laws::ring_at))]
 pub fn receive_in(s: &[u8], at: usize) -> Receive
     requires { at + 32 ≤ length s.now }
     ensures { result ≡ receive_in s.now at }
@@ -49,16 +60,10 @@ pub fn receive_in(s: &[u8], at: usize) -> Receive
         code: words::word(s, at + 4),
         mask: words::word(s, at + 8),
     };
-    let events = words::word(s, at + 12);
-    let ring = Ring {
-        capacity: words::word(s, at + 16),
-        first: words::word(s, at + 20),
-        count: words::word(s, at + 24),
-    };
     Receive {
-        filter: filter,
-        events: events,
-        ring: ring,
+        filter,
+        events: words::word(s, at + 12),
+        ring: ring_in(s, at + 16),
         pending: words::word(s, at + 28),
     }
 }
@@ -75,10 +80,7 @@ pub fn register_in(s: &[u8], at: usize) -> Message
         dlc: words::word(s, at + 12),
     };
     let bytes = data_in(s, at + 16);
-    Message {
-        header: header,
-        bytes: bytes,
-    }
+    Message { header, bytes }
 }
 
 // Eight data bytes.
@@ -86,65 +88,64 @@ fn data_in(s: &[u8], at: usize) -> [u8; 8]
     requires { at + 8 ≤ length s.now }
     ensures { result ≡ slice at (at + 8) s.now }
 {
-    let mut out = [0u8; 8];
-    common::copy(&mut out, &s[at..at + 8]);
-    out
+    let mut bytes = [0; 8];
+    bytes.copy_from_slice(&s[at..at + 8]);
+    bytes
 }
 
 pub fn send_in(s: &[u8], at: usize) -> Send
     requires { at + 44 ≤ length s.now }
     ensures { result ≡ send_in s.now at }
 {
-    let tx = words::word(s, at);
-    let ring = Ring {
-        capacity: words::word(s, at + 4),
-        first: words::word(s, at + 8),
-        count: words::word(s, at + 12),
-    };
-    let held = words::word(s, at + 16) == 1;
-    let message = register_in(s, at + 20);
     Send {
-        tx: tx,
-        ring: ring,
-        held: held,
-        message: message,
+        tx: words::word(s, at),
+        ring: ring_in(s, at + 4),
+        held: words::word(s, at + 16) == 1,
+        message: register_in(s, at + 20),
     }
 }
 
+#[tactic(auto, using(crate::proofs::Laws::shared_written))]
 pub fn write_shared(s: &mut [u8], at: usize, h: Shared)
     requires { at + 24 ≤ length s.old }
     ensures { s.new ≡ sets s.old at (word_bytes (shared_numbers h)) }
 {
-    let site = h.site;
-    words::write_four(s, at, h.mode, h.format, h.align, site.offset);
-    words::write_two(
-        s,
-        at + 16,
-        words::low_half(site.second),
-        words::high_half(site.second),
-    );
+    words::write_four(s, at, h.mode, h.format, h.align, h.site.offset);
+    s[at + 16..at + 24].copy_from_slice(&h.site.second.to_le_bytes());
 }
 
 pub fn write_receive(s: &mut [u8], at: usize, r: Receive)
     requires { at + 32 ≤ length s.old }
     ensures { s.new ≡ sets s.old at (word_bytes (receive_numbers r)) }
 {
-    let filter = r.filter;
-    let ring = r.ring;
-    words::write_four(s, at, filter.active, filter.code, filter.mask, r.events);
-    words::write_four(s, at + 16, ring.capacity, ring.first, ring.count, r.pending);
+    words::write_four(
+        s,
+        at,
+        r.filter.active,
+        r.filter.code,
+        r.filter.mask,
+        r.events,
+    );
+    words::write_four(
+        s,
+        at + 16,
+        r.ring.capacity,
+        r.ring.first,
+        r.ring.count,
+        r.pending,
+    );
 }
 
 // Writes whether the register is held, and its message.
+#[tactic(auto, using(crate::proofs::Laws::register_written))]
 pub fn write_register(s: &mut [u8], at: usize, held: bool, m: Message)
     requires { at + 28 ≤ length s.old }
     ensures { (s.new ≡ sets s.old at (register_bytes held m)) × (length m.bytes ≡ 8) }
 {
     let h = m.header;
-    let b = m.bytes;
     words::write_word(s, at, held as u32);
     words::write_four(s, at + 4, h.id, h.format, h.rtr, h.dlc);
-    common::copy(&mut s[at + 20..], &b);
+    s[at + 20..at + 28].copy_from_slice(&m.bytes);
 }
 
 pub fn write_send(s: &mut [u8], at: usize, x: Send)
@@ -152,8 +153,6 @@ pub fn write_send(s: &mut [u8], at: usize, x: Send)
     ensures { (s.new ≡ sets s.old at (word_bytes (send_numbers x) ++ x.message.bytes))
         × (length x.message.bytes ≡ 8) }
 {
-    let ring = x.ring;
-    let m = x.message;
-    words::write_four(s, at, x.tx, ring.capacity, ring.first, ring.count);
-    write_register(s, at + 16, x.held, m);
+    words::write_four(s, at, x.tx, x.ring.capacity, x.ring.first, x.ring.count);
+    write_register(s, at + 16, x.held, x.message);
 }

@@ -1,5 +1,5 @@
 // Numbers in lent bytes, each in four, lowest first.
-ghost use Rattle.std.specs.Prelude.{◌≡◌, ◌∷◌, [], ◌+◌, ◌/◌, ◌%◌, ◌^◌, ◌≤◌, length};
+ghost use Rattle.std.specs.Prelude.{◌≡◌, ◌∷◌, [], ◌+◌, ◌≤◌, length};
 ghost use Rattle.std.proofs.lemmas.List.Edits.{sets};
 ghost use Rattle.common.specs.Numbers.{bytes_of};
 ghost use Rattle.layout.specs.Parts.{word_bytes, word};
@@ -14,31 +14,12 @@ pub fn word(s: &[u8], at: usize) -> u32
 }
 
 // Writes a number from `at` on.
+#[tactic(auto, using(crate::proofs::Laws::word_written))]
 pub fn write_word(s: &mut [u8], at: usize, n: u32)
     requires { at + 4 ≤ length s.old }
     ensures { s.new ≡ sets s.old at (bytes_of 4 n) }
 {
-    let n1 = n / 256;
-    let n2 = n1 / 256;
-    let n3 = n2 / 256;
-    s[at] = (n % 256) as u8;
-    s[at + 1] = (n1 % 256) as u8;
-    s[at + 2] = (n2 % 256) as u8;
-    s[at + 3] = (n3 % 256) as u8;
-}
-
-// The low 32 bits of a number of 64.
-pub fn low_half(n: u64) -> u32
-    ensures { result ≡ n % 2 ^ 32 }
-{
-    (n % 4294967296) as u32
-}
-
-// And the high ones.
-pub fn high_half(n: u64) -> u32
-    ensures { result ≡ n / 2 ^ 32 }
-{
-    (n / 4294967296) as u32
+    s[at..at + 4].copy_from_slice(&n.to_le_bytes());
 }
 
 // Writes two numbers.

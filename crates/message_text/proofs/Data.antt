@@ -1,16 +1,15 @@
 -- Data values: those that are bytes, and the eight bytes made of them.
-use Prim.Native.Nat.{ℕ, zero, suc, ◌+◌, ◌-◌, ◌%◌, ◌≤◌, ◌<◌}
-use mathlib.Core.Path.{◌≡◌, refl, ap, ap₂, ◌∙◌}
-use mathlib.Core.List.{List, [], ◌∷◌, ◌++◌, map}
+use Prim.Native.Nat.{ℕ, zero, suc, ◌+◌, ◌≤◌, ◌<◌}
+use mathlib.Core.Path.{◌≡◌, refl, sym, ap, ap₂, ◌∙◌}
+use mathlib.Core.List.{List, [], ◌∷◌, map}
 use mathlib.Core.Bool.{true, false, ◌&&◌}
-use native.Mathlib.Nat.{add_comm}
 use native.Mathlib.Omega.{arith}
 use borrow.Author.Tests.{lt-ltb, le-ltb, ltb-true}
 use lib.Dec.{ltb}
-use lib.ListN.{length, get_or, take, drop, set, replicate, length-drop, drop_of_length-le}
-use lib.Seq.{sets, get_or-drop}
+use lib.ListN.{length, get_or, take, drop, set, replicate, drop_of_length-le}
+use lib.Seq.{sets, take_all}
 use Rattle.common.proofs.Bools.{and_left, and_right}
-use Rattle.common.proofs.Lists.{copy_more}
+use Rattle.std.proofs.lemmas.List.{take_more, take_more_set}
 use Rattle.digits.specs.Reading.{capped}
 use Rattle.digits.proofs.Capped.{capped_ltb}
 use Rattle.message_text.specs.Reading.{all_bytes}
@@ -39,26 +38,14 @@ byte_at (x ∷ xs) (suc k) e = byte_at xs k (and_right (ltb x 256) (all_bytes xs
 
 -- ---- the eight bytes, one by one
 
--- k of the values from the fourth on, over zeros
-abbrev pub data_so_far : List ℕ → ℕ → List ℕ
-data_so_far at k = take k (drop 3 at) ++ drop k (replicate 8 0)
+-- one more is taken over
+pub data_more : (xs bytes : List ℕ) (i b : ℕ) → i < length xs → i < length bytes → b ≡ get_or xs i 0
+    → take i bytes ≡ take i xs → take (i + 1) (set bytes i b) ≡ take (i + 1) xs
+data_more xs bytes i b h l e t = rw (take_more_set bytes i b l, take_more xs i 0 h, e, t)
 
-pub data_more : (at : List ℕ) (k : ℕ) → length at ≡ 11 → k < 8 → all_bytes (drop 3 at) ≡ true
-    → set (data_so_far at k) k (get_or at (k + 3) 0 % 256) ≡ data_so_far at (k + 1)
-data_more at k l h e =
-    let b = byte_at (drop 3 at) k e in
-    let g : get_or (drop 3 at) k 0 ≡ get_or at (k + 3) 0 =
-    get_or-drop 3 at k 0 ∙ ap (λ (n : ℕ). get_or at n 0) (add_comm 3 k) in
-    let m : get_or at (k + 3) 0 % 256 ≡ get_or (drop 3 at) k 0 = omega arith in
-    rw m (copy_more k (drop 3 at) (replicate 8 0) (omega (arith, length-drop 3 at)) (omega arith))
-
-drop_zeros : (k m : ℕ) → ◌≡◌ {A = List ℕ} (drop k (replicate m 0)) (replicate (m - k) 0)
-drop_zeros zero m = let e : m - 0 ≡ m = omega arith in rw e
-drop_zeros (suc k) zero = let e : 0 - suc k ≡ 0 = omega arith in rw e
-drop_zeros (suc k) (suc m) = let e : suc m - suc k ≡ m - k = omega arith in rw e (drop_zeros k m)
-
-pub data_done : (at : List ℕ) (n k : ℕ) → k ≤ n → n ≤ k → data_so_far at k ≡ take n (drop 3 at) ++ replicate (8 - n) 0
-data_done at n k h l = let e : k ≡ n = omega arith in rw (e, drop_zeros n 8)
+-- all are
+pub data_done : (xs bytes : List ℕ) (i : ℕ) → length xs ≤ i → length bytes ≤ i → take i bytes ≡ take i xs → bytes ≡ xs
+data_done xs bytes i h l t = sym (take_all i bytes l) ∙ t ∙ take_all i xs h
 
 -- ---- values as they are kept: capped, in an array of zeros
 

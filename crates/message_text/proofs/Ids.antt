@@ -7,16 +7,16 @@ use native.Mathlib.Omega.{arith}
 use borrow.Author.Tests.{le-ltb, ltb-true}
 use lib.Dec.{leb, ltb, eqb}
 use lib.Pow.{pow_mono, pow-add, shr_mono, shl-shr}
+use Rattle.std.specs.Prelude.{Some, None}
 use Rattle.common.specs.Choice.{pick}
 use Rattle.common.proofs.Bools.{apart}
 use Rattle.ids.specs.Ids.{is_format, id_bits, id_low, raw_of, is_bad, id_number}
-use Rattle.ids.specs.declared.Id.TheVariants.{Good, Bad}
 use Rattle.ids.proofs.Columns.{id_in_word}
 use Rattle.digits.specs.Reading.{capped}
 use Rattle.digits.proofs.Capped.{capped_cong}
 
 -- a number that does not fit in 32 bits is a bad identifier
-pub raw_large : (align f v : ℕ) → 2 ^ 32 ≤ v → raw_of align f v ≡ Bad
+pub raw_large : (align f v : ℕ) → 2 ^ 32 ≤ v → raw_of align f v ≡ None
 unfolding raw_of
 raw_large align f v h =
     let w = id_bits f in
@@ -40,8 +40,8 @@ raw_good align f v e =
     by (leb align 3) (is_format f) (eqb (v % 2 ^ id_low f align) 0) (ltb (v / 2 ^ id_low f align) (2 ^ id_bits f)) refl e
   where
     by : (a k z t : Bool) → ltb (v / 2 ^ id_low f align) (2 ^ id_bits f) ≡ t
-        → is_bad (pick (a && k && z && t) (Good (v / 2 ^ id_low f align)) Bad) ≡ false
-        → (k ≡ true) × (id_number (pick (a && k && z && t) (Good (v / 2 ^ id_low f align)) Bad) < 2 ^ id_bits f)
+        → is_bad (pick (a && k && z && t) (Some (v / 2 ^ id_low f align)) None) ≡ false
+        → (k ≡ true) × (id_number (pick (a && k && z && t) (Some (v / 2 ^ id_low f align)) None) < 2 ^ id_bits f)
     by true true true true q e = (refl, ltb-true (v / 2 ^ id_low f align) (2 ^ id_bits f) q)
     by true true true false q e = absurd (apart e)
     by true true false t q e = absurd (apart e)

@@ -7,10 +7,13 @@ use native.Mathlib.Omega.{arith}
 use borrow.Author.Tests.{lt-ltb, le-ltb, ltb-true, ltb-false, not-false}
 use lib.Dec.{ltb}
 use lib.ListN.{length, replicate, length-map}
+use Rattle.std.specs.Prelude.{Result, Ok}
+use Rattle.common.specs.declared.refusals.Refusal.{Refusal}
 use Rattle.common.proofs.Choices.{by_test, pick_same}
 use Rattle.ids.specs.Ids.{raw_of, is_bad}
 use Rattle.ids.specs.Frames.{carried}
 use Rattle.ids.specs.declared.Header.{Header}
+use Rattle.messages.specs.declared.Message.{Message}
 use Rattle.ids.proofs.Frames.{carried_le}
 use Rattle.digits.specs.Reading.{capped}
 use Rattle.digits.proofs.Capped.{ltb_capped}
@@ -18,8 +21,6 @@ use Rattle.message_text.specs.Reading.{parsed_header, all_bytes, judged_data, ju
 use Rattle.numbers.specs.Numbers.{numbers, before_end}
 use Rattle.numbers.specs.Scan.{kept_from, kept_of}
 use Rattle.numbers.specs.declared.Kept.{Kept}
-use Rattle.message_text.specs.declared.Said.{Said}
-use Rattle.message_text.specs.declared.Answer.TheVariants.{Taken}
 use Rattle.message_text.proofs.Ids.{raw_capped}
 use Rattle.message_text.proofs.Data.{padded, padded_one, padded_bytes, padded_take}
 
@@ -36,11 +37,15 @@ above_min n =
     (λ e. let l : 11 < n = ltb-true 11 n e in lt-ltb 11 (min 12 n) (omega arith) ∙ sym e)
     (λ e. let l : n ≤ 11 = ltb-false 11 n e in le-ltb 11 (min 12 n) (omega arith) ∙ sym e)
 
+-- the message with these data
+abbrev with_data : Header → List ℕ → Result Message Refusal
+with_data h d = Ok (record { header = h; bytes = d })
+
 -- numbers of which at least three are kept
-module _ (a b c : ℕ) (values : List ℕ) (used : ℕ) where
+module _ (a b c : ℕ) (values : List ℕ) where
   same_data : (h : Header) (x y z : ℕ)
-      → judged_data h (min 12 (length (a ∷ b ∷ c ∷ values))) (x ∷ y ∷ z ∷ padded 8 values) used
-      ≡ judged_data h (length (a ∷ b ∷ c ∷ values)) (a ∷ b ∷ c ∷ values) used
+      → judged_data h (min 12 (length (a ∷ b ∷ c ∷ values))) (x ∷ y ∷ z ∷ padded 8 values)
+      ≡ judged_data h (length (a ∷ b ∷ c ∷ values)) (a ∷ b ∷ c ∷ values)
   unfolding judged_data
   same_data h x y z =
       let n = length (a ∷ b ∷ c ∷ values) in
@@ -52,14 +57,14 @@ module _ (a b c : ℕ) (values : List ℕ) (used : ℕ) where
       rw (padded_bytes 8 values l)
       (pick_same (not (all_bytes values)) (λ g. refl)
       (λ g.
-      ap (λ (d : List ℕ). record { answer = Taken h used; bytes = d ++ replicate (8 - carried h) 0 })
+      ap (λ (d : List ℕ). with_data h (d ++ replicate (8 - carried h) 0))
       (padded_take 8 (carried h) values (omega (arith, ltb-false n (3 + carried h) e)) l
       (not-false (all_bytes values) g)))))))
 
   same_judged : (align format : ℕ)
       → judged align format (min 12 (length (a ∷ b ∷ c ∷ values)))
-      (capped a ∷ capped b ∷ capped c ∷ padded 8 values) used
-      ≡ judged align format (length (a ∷ b ∷ c ∷ values)) (a ∷ b ∷ c ∷ values) used
+      (capped a ∷ capped b ∷ capped c ∷ padded 8 values)
+      ≡ judged align format (length (a ∷ b ∷ c ∷ values)) (a ∷ b ∷ c ∷ values)
   unfolding judged
   same_judged align format =
       let n = length (a ∷ b ∷ c ∷ values) in
@@ -80,17 +85,16 @@ module _ (a b c : ℕ) (values : List ℕ) (used : ℕ) where
       rw (r, d) (same_data (parsed_header align format (a ∷ b ∷ c ∷ values)) (capped a) b c))))))
 
 -- the numbers kept say what all the numbers say
-kept_judged : (align format : ℕ) (values : List ℕ) (used : ℕ)
-    → judged align format (kept_of values).count (kept_of values).at used
-    ≡ judged align format (length values) values used
+kept_judged : (align format : ℕ) (values : List ℕ)
+    → judged align format (kept_of values).count (kept_of values).at ≡ judged align format (length values) values
 unfolding kept_from judged
-kept_judged align format [] used = refl
-kept_judged align format (a ∷ []) used = refl
-kept_judged align format (a ∷ b ∷ []) used = refl
-kept_judged align format (a ∷ b ∷ c ∷ values) used =
+kept_judged align format [] = refl
+kept_judged align format (a ∷ []) = refl
+kept_judged align format (a ∷ b ∷ []) = refl
+kept_judged align format (a ∷ b ∷ c ∷ values) =
     let n : 0 + suc (suc (suc (length (map capped values)))) ≡ suc (suc (suc (length values))) =
     omega (arith, length-map values capped) in
-    rw (n, three) (same_judged a b c values used align format)
+    rw (n, three) (same_judged a b c values align format)
   where
     three : padded 11 (a ∷ b ∷ c ∷ values) ≡ capped a ∷ capped b ∷ capped c ∷ padded 8 values
     three =
@@ -99,9 +103,9 @@ kept_judged align format (a ∷ b ∷ c ∷ values) used =
         ∙ ap (λ (l : List ℕ). capped b ∷ l) (padded_one 8 c values))
 
 -- so a text with an end says what was judged of the numbers kept
-pub text_judged : (align format : ℕ) (t : List ℕ) (k : Kept) (used : ℕ) {r : Said} → before_end t < length t
-    → k ≡ kept_of (numbers t) → used ≡ used_of t
-    → r ≡ judged align format k.count k.at used → r ≡ read_message align format t
+pub text_judged : (align format : ℕ) (t : List ℕ) (k : Kept) {said : Result Message Refusal} {used : ℕ}
+    → before_end t < length t → k ≡ kept_of (numbers t) → used ≡ used_of t → said ≡ judged align format k.count k.at
+    → record { said = said; used = used } ≡ read_message align format t
 unfolding read_message
-text_judged align format t k used h e u j =
-    j ∙ rw (e, u, lt-ltb (before_end t) (length t) h) (kept_judged align format (numbers t) (used_of t))
+text_judged align format t k h e u j =
+    rw (j, u, e, lt-ltb (before_end t) (length t) h, kept_judged align format (numbers t))

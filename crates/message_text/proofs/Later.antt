@@ -7,10 +7,13 @@ use borrow.Author.Tests.{lt-ltb, le-ltb}
 use lib.ListN.{length, take, drop, length-append, length-drop}
 use lib.Seq.{take-add, drop_at, length-take-le}
 use Rattle.common.specs.Choice.{pick}
+use Rattle.common.specs.Refusals.{number_in}
+use Rattle.common.specs.declared.refusals.Refusal.TheVariants.{NoEnd}
 use Rattle.common.proofs.Bools.{apart}
+use Rattle.digits.specs.Reading.{byte_kind}
 use Rattle.numbers.specs.Numbers.{Place, between, ended, after, is_end, is_digit, numbers_from, numbers, before_end}
 use Rattle.numbers.specs.Numbers.{end_run}
-use Rattle.message_text.specs.Reading.{used_of, read_message, refused, parsed_number, used_by}
+use Rattle.message_text.specs.Reading.{used_of, read_message, refused}
 use Rattle.common.proofs.Choices.{by_test, pick_is, pick_same}
 use Rattle.message_text.proofs.Cases.{is_refusal, judged_is}
 
@@ -60,7 +63,7 @@ module _ (more : List ℕ) where
   numbers_cut p (b ∷ t) (suc n) h l =
       pick_same (is_end b) (λ e. refl)
       (λ e. ap (λ (r : List ℕ). pick (is_digit b) [] (ended p) ++ r)
-      (numbers_cut (after p b) t n (omega (arith, rw e at h)) (omega (arith, rw e at l))))
+      (numbers_cut (after p (byte_kind b)) t n (omega (arith, rw e at h)) (omega (arith, rw e at l))))
 
   run_cut : end_run more ≡ 0 → (t : List ℕ) → end_run (take (end_run t) t ++ more) ≡ end_run t
   unfolding end_run
@@ -106,26 +109,22 @@ module _ (text more : List ℕ) (has : before_end text < length text) (stop : en
 
 -- a text with no end is refused with 6, and 0 bytes are used
 pub used_none : (align format : ℕ) (text : List ℕ) → before_end text ≡ length text
-    → read_message align format text ≡ refused 6 0
+    → read_message align format text ≡ refused NoEnd 0
 unfolding read_message
 used_none align format text e = rw (le-ltb (before_end text) (length text) (omega arith))
 
 -- every other text uses at least one byte, refused or not: through the run of ends
 pub used_some : (align format : ℕ) (text : List ℕ) → before_end text < length text
-    → (used_by (read_message align format text).answer ≡ used_of text) × (0 < used_of text)
+    → ((read_message align format text).used ≡ used_of text) × (0 < used_of text)
 unfolding read_message
-used_some align format text has = (
-  rw (lt-ltb (before_end text) (length text) has)
-      (judged_is (λ s. used_by s.answer ≡ used_of text) align format (length (numbers text)) (numbers text)
-      (used_of text) (λ number l. refl) (λ t. refl)),
-  omega (arith, run_some text has),
-)
+used_some align format text has =
+    (rw (lt-ltb (before_end text) (length text) has), omega (arith, run_some text has))
 
 -- and 6 is not its number
 pub six_none : (align format : ℕ) (text : List ℕ) → before_end text < length text
-    → parsed_number (read_message align format text).answer ≡ 6 → ⊥
+    → number_in (read_message align format text).said ≡ 6 → ⊥
 unfolding read_message
 six_none align format text has =
     rw (lt-ltb (before_end text) (length text) has)
-    (judged_is (λ s. parsed_number s.answer ≡ 6 → ⊥) align format (length (numbers text)) (numbers text) (used_of text)
-    (λ number l e. apart (sym l ∙ ap is_refusal e)) (λ t e. omega arith))
+    (judged_is (λ said. number_in said ≡ 6 → ⊥) align format (length (numbers text)) (numbers text)
+    (λ why l e. apart (sym l ∙ ap is_refusal e)) (λ t e. omega arith))

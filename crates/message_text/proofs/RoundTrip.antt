@@ -5,11 +5,12 @@ use mathlib.Core.List.{List, [], ◌∷◌, ◌++◌, append_assoc}
 use mathlib.Core.Bool.{true, false}
 use native.Mathlib.Nat.{mod-eq_of_lt, lt_of_lt_of_le}
 use native.Mathlib.Omega.{arith}
-use borrow.Author.Tests.{lt-ltb, le-ltb, ltb-true, ne_eqb, eqb-true}
+use borrow.Author.Tests.{lt-ltb, le-ltb, ltb-true, eqb-true}
 use lib.Dec.{ltb, eqb}
 use lib.ListN.{length, take, drop, replicate, length-append, length-drop, take-append-drop}
 use lib.Pow.{shl_lt, pow_mono}
 use lib.Seq.{take_all, drop_at, length-take-le}
+use Rattle.std.specs.Prelude.{Some, Ok}
 use Rattle.common.specs.Numbers.{Bytes, all_zero}
 use Rattle.common.proofs.Bools.{and_left, and_right}
 use Rattle.common.proofs.Numbers.{zeros_are}
@@ -19,7 +20,6 @@ use Rattle.digits.proofs.Back.{digit_back, low_suc, grown as value-grown}
 use Rattle.ids.specs.Ids.{id_bits, id_low, raw_of}
 use Rattle.ids.specs.Frames.{header_refusal, carried, shown_id}
 use Rattle.ids.specs.declared.Header.{Header}
-use Rattle.ids.specs.declared.Id.TheVariants.{Good}
 use Rattle.ids.proofs.Columns.{id_in_word}
 use Rattle.ids.proofs.Frames.{HeaderFacts, good_header_lem, carried_le}
 use Rattle.ids.proofs.RoundTrip.{good_aligned, read_back}
@@ -28,14 +28,13 @@ use Rattle.messages.specs.declared.Message.{Message}
 use Rattle.numbers.specs.Numbers.{Place, between, within, grown, is_end, numbers_from, numbers, before_end, end_run}
 use Rattle.message_text.specs.Reading.{used_of, all_bytes, judged_data, judged, read_message}
 use Rattle.message_text.specs.Printing.{message_text, message_line}
-use Rattle.message_text.specs.declared.Answer.TheVariants.{Taken}
 
 -- ---- the numbers of a line
 
 -- a digit goes on with a number
 digit : (p : Place) (d : ℕ) (t : List ℕ) → d < 16 → numbers_from p (hex_digit d ∷ t) ≡ numbers_from (grown p d) t
 unfolding numbers_from
-digit p d t h = rw (digit_back d h, ne_eqb d 17 (omega arith), lt-ltb d 16 h)
+digit p d t h = rw (digit_back d h)
 
 -- the w lowest digits of a number, read behind others
 within_hex : (w n v : ℕ) (t : List ℕ)
@@ -114,7 +113,7 @@ unfolding hex
 clear_hex zero n = λ t. omega arith
 clear_hex (suc w) n =
     let d : ℕ = n / 16 ^ w % 16 in
-    clear_more (hex_digit d) (hex w n) (rw (digit_back d (omega arith)) (ne_eqb d 17 (omega arith))) (clear_hex w n)
+    clear_more (hex_digit d) (hex w n) (rw (digit_back d (omega arith))) (clear_hex w n)
 
 clear_field : (xs : List ℕ) → Clear xs → Clear (32 ∷ xs)
 unfolding byte_kind
@@ -178,19 +177,18 @@ module _ (align : ℕ) (m : Message) (a : align ≤ 3) (g : HeaderFacts m.header
       omega (arith, id_in_word h.format align (id_low h.format align) (id_bits h.format) refl refl) in
       lt_of_lt_of_le (shl_lt (id_bits h.format) (id_low h.format align) g.id) (pow_mono fits)
 
-  shown_back : raw_of align h.format (shown_id align h) ≡ Good h.id
+  shown_back : raw_of align h.format (shown_id align h) ≡ Some h.id
   shown_back =
       read_back align h.format h.id (shown_id align h)
       (good_aligned align h.format h.id a g.format g.id)
 
   -- the fields of a good message say that message
-  fields_say : (bs : List ℕ) (used : ℕ) → length bs ≡ carried h → all_bytes bs ≡ true
+  fields_say : (bs : List ℕ) → length bs ≡ carried h → all_bytes bs ≡ true
       → take (carried h) bs ++ replicate (8 - carried h) 0 ≡ m.bytes
-      → judged align h.format (length (shown_id align h ∷ h.rtr ∷ h.dlc ∷ bs))
-      (shown_id align h ∷ h.rtr ∷ h.dlc ∷ bs) used
-      ≡ record { answer = Taken h used; bytes = m.bytes }
+      → judged align h.format (length (shown_id align h ∷ h.rtr ∷ h.dlc ∷ bs)) (shown_id align h ∷ h.rtr ∷ h.dlc ∷ bs)
+      ≡ Ok m
   unfolding judged judged_data
-  fields_say bs used l s d =
+  fields_say bs l s d =
       let n = length (shown_id align h ∷ h.rtr ∷ h.dlc ∷ bs) in
       rw (
         le-ltb n 3 (omega arith),
@@ -206,7 +204,7 @@ module _ (align : ℕ) (m : Message) (a : align ≤ 3) (g : HeaderFacts m.header
 -- a good message's line is read back, and all its bytes are used
 pub round_trip : (align : ℕ) (m : Message) → align ≤ 3 → good_message m ≡ true → length m.bytes ≡ 8 → Bytes m.bytes
     → read_message align m.header.format (message_line align m)
-    ≡ record { answer = Taken m.header (length (message_line align m)); bytes = m.bytes }
+    ≡ record { said = Ok m; used = length (message_line align m) }
 unfolding good_message message_line read_message
 round_trip align m a e l b =
     let h = m.header in
@@ -222,7 +220,8 @@ round_trip align m a e l b =
       ends.1,
       line_numbers (shown_id align h) h m.bytes (shown_small align m a g) g.rtr g.dlc s,
     )
-    (fields_say align m a g bs (length t) (length-take-le (carried h) m.bytes (omega (arith, carried_le h))) s d)
+    (ap (λ said. record { said = said; used = length t })
+    (fields_say align m a g bs (length-take-le (carried h) m.bytes (omega (arith, carried_le h))) s d))
 
 -- a line's last byte is its only end, so all its bytes are used
 pub line_used : (align : ℕ) (m : Message) → used_of (message_line align m) ≡ length (message_line align m)

@@ -1,12 +1,14 @@
--- A message that a text says is a good message, and a refusal stands beside zeros.
+-- A message that a text says is a good message.
 use Prim.Native.Nat.{ℕ, ◌-◌, ◌^◌}
-use mathlib.Core.Path.{◌≡◌, refl}
+use mathlib.Core.Path.{◌≡◌}
 use mathlib.Core.List.{List}
 use mathlib.Core.Bool.{true}
 use native.Mathlib.Omega.{arith}
 use borrow.Author.Tests.{lt-ltb, le-leb}
 use lib.ListN.{length, get_or, take, drop, replicate, length-append, length-drop, length-replicate}
 use lib.Seq.{drop_at, length-take-le}
+use Rattle.std.specs.Prelude.{Result, Ok, Err}
+use Rattle.common.specs.declared.refusals.Refusal.{Refusal}
 use Rattle.common.specs.Numbers.{Bytes}
 use Rattle.common.proofs.Numbers.{zeros_zero, zeros_bytes, bytes_append, bytes_take}
 use Rattle.ids.specs.Ids.{id_bits, raw_of, id_number}
@@ -14,18 +16,17 @@ use Rattle.ids.specs.Frames.{header_refusal, carried}
 use Rattle.ids.specs.declared.Header.{Header}
 use Rattle.ids.proofs.Frames.{carried_le}
 use Rattle.messages.specs.Records.{good_message}
+use Rattle.messages.specs.declared.Message.{Message}
 use Rattle.numbers.specs.Numbers.{numbers}
 use Rattle.message_text.specs.Reading.{parsed_header, data_of, read_message}
-use Rattle.message_text.specs.declared.Answer.{Answer}
-use Rattle.message_text.specs.declared.Answer.TheVariants.{Taken, Refused}
 use Rattle.message_text.proofs.Ids.{raw_good}
 use Rattle.message_text.proofs.Cases.{TakenFacts, read_is}
 use Rattle.message_text.proofs.Data.{byte_at}
 
--- an answer with the bytes beside it: a good message with its eight bytes, or a refusal with zeros
-abbrev pub Fit : Answer → List ℕ → Type 0
-Fit (Taken h used) b = (good_message (record { header = h; bytes = b }) ≡ true) × (length b ≡ 8) × Bytes b
-Fit (Refused number used) b = b ≡ replicate 8 0
+-- a message is a good one with eight bytes
+abbrev pub Fit : Result Message Refusal → Type 0
+Fit (Ok m) = (good_message m ≡ true) × (length m.bytes ≡ 8) × Bytes m.bytes
+Fit (Err why) = Unit {0}
 
 module _ (align format : ℕ) (values : List ℕ) (t : TakenFacts align format (length values) values) where
   abbrev h : Header
@@ -58,14 +59,11 @@ module _ (align format : ℕ) (values : List ℕ) (t : TakenFacts align format (
   )
 
 -- whatever a text says fits
-pub read_fit : (align format : ℕ) (text : List ℕ)
-    → Fit (read_message align format text).answer (read_message align format text).bytes
+pub read_fit : (align format : ℕ) (text : List ℕ) → Fit (read_message align format text).said
 read_fit align format text =
-    read_is (λ s. Fit s.answer s.bytes) align format text refl (λ number l. refl)
-    (taken_fit align format (numbers text))
+    read_is (λ s. Fit s.said) align format text tt (λ why l. tt) (taken_fit align format (numbers text))
 
 -- a taken message is good, and its data are eight bytes
-pub taken_good : (align format : ℕ) (text : List ℕ) {h : Header} {used : ℕ} {b : List ℕ}
-    → read_message align format text ≡ record { answer = Taken h used; bytes = b }
-    → (good_message (record { header = h; bytes = b }) ≡ true) × (length b ≡ 8) × Bytes b
+pub taken_good : (align format : ℕ) (text : List ℕ) {m : Message} → (read_message align format text).said ≡ Ok m
+    → (good_message m ≡ true) × (length m.bytes ≡ 8) × Bytes m.bytes
 taken_good align format text e = rw e at (read_fit align format text)

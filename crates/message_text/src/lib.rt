@@ -4,18 +4,12 @@
 pub mod printing;
 pub mod reading;
 
-use ids::Header;
+use common::refusals::Refusal;
+use messages::Message;
 
-// What a text says: a message's header, or a refusal's number; beside each the bytes used.
-#[derive(Clone, Copy)]
-pub enum Answer {
-    Taken(Header, usize),
-    Refused(u32, usize),
-}
-
-// The answer, with the message's eight data bytes beside it.
+// What a text says: a message, or why it says none; and the bytes used, of either.
 #[derive(Clone, Copy)]
 pub struct Said {
-    pub answer: Answer,
-    pub bytes: [u8; 8],
+    pub said: Result<Message, Refusal>,
+    pub used: usize,
 }

@@ -1,83 +1,63 @@
 // A message printed into a lent buffer.
-ghost use Rattle.std.specs.Prelude.{◌≡◌, ◌≤◌, length};
-ghost use Rattle.digits.specs.Written.{Put, Prints, not_printed};
+ghost use Rattle.std.specs.Prelude.{◌≡◌, length};
+ghost use Rattle.digits.specs.Written.{Prints};
 ghost use Rattle.messages.specs.Records.{message_in};
 ghost use Rattle.message_text.specs.Printing.{message_text, message_line, message_refusal, message_record_refusal};
 
-use digits::{Printed, writing};
-use ids::{Header, Id};
+use common::refusals::Refusal;
+use digits::Line;
 use messages::Message;
 
 // The room that the longest line needs.
 pub const ROOM: usize = 37;
 
-fn refuse(number: u32) -> Printed
-    ensures { result ≡ not_printed number }
-{
-    Printed {
-        number: number,
-        length: 0,
-    }
-}
-
 // The line of a message whose aligned identifier is id.
-#[tactic(auto, using(digits::proofs::Lengths::hex_length, digits::proofs::Lengths::fields_length, ids::proofs::Frames::carried_le))]
-fn put_message(out: &mut [u8], id: u32, h: Header, b: [u8; 8]) -> usize
-    requires { 37 ≤ length out.old }
-    ensures { Put out.old 0 (message_text id h b) out.new result }
+#[tactic(auto, unfolding(crate::specs::Printing::message_text), using(digits::proofs::Lengths::lengths, ids::proofs::Frames::carried_le))]
+fn line_of(id: u32, m: Message) -> Line<ROOM>
+    ensures { result ≡ message_text id m.header m.bytes }
 {
-    let n = ids::frame::carried_by(h);
-    let p = writing::put_hex(out, 0, id, 8);
-    let q = writing::put_field(out, p, 32, h.rtr, 1);
-    let r = writing::put_field(out, q, 32, h.dlc, 1);
-    let s = writing::put_bytes(out, r, 32, b, n);
-    writing::put_byte(out, s, 10)
+    let mut line = Line::new();
+    line.hex(id, 8);
+    line.field(b' ', m.header.rtr, 1);
+    line.field(b' ', m.header.dlc, 1);
+    line.bytes(b' ', &m.bytes[..m.header.carried() as usize]);
+    line.byte(b'\n');
+    line
 }
 
 // Prints a message given alone: its identifier is raw.
-#[tactic(auto, unfolding(crate::specs::Printing::message_refusal), using(crate::proofs::Printed::id_not_bad, digits::proofs::Answers::no_room, digits::proofs::Answers::no_align, digits::proofs::Answers::refused, digits::proofs::Answers::passed))]
-pub fn print_message(align: u32, m: Message, out: &mut [u8]) -> Printed
+#[tactic(auto, unfolding(crate::specs::Printing::message_refusal, crate::specs::Printing::message_line), using(crate::proofs::Printed::shown))]
+pub fn print_message(align: u32, m: Message, out: &mut [u8]) -> Result<usize, Refusal>
     ensures { Prints (message_refusal align m (length out.old)) (message_line align m)
         out.old result out.new }
 {
     if out.len() < ROOM {
-        return refuse(3);
+        return Err(Refusal::NoRoom);
     }
     if 3 < align {
-        return refuse(1);
+        return Err(Refusal::SettingOutOfRange);
     }
-    let h = m.header;
-    let b = m.bytes;
-    let number = ids::frame::header_refusal(h);
-    if number != 0 {
-        return refuse(number);
-    }
-    let Id::Good(id) = ids::align::align_id(align, h.format, h.id) else {
-        return refuse(8);
+    m.header.check()?;
+    let Some(id) = ids::align::align_id(align, m.header.format, m.header.id) else {
+        return Err(Refusal::BadIdentifier);
     };
-    let end = put_message(out, id, h, b);
-    Printed {
-        number: 0,
-        length: end,
-    }
+    Ok(line_of(id, m).copy_to(out))
 }
 
 // Prints a message record.
-#[tactic(auto, unfolding(crate::specs::Printing::message_record_refusal), using(crate::proofs::Printed::damaged, digits::proofs::Answers::no_room, digits::proofs::Answers::no_align, digits::proofs::Answers::refused, digits::proofs::Answers::passed))]
-pub fn print_record(align: u32, s: &[u8], out: &mut [u8]) -> Printed
+#[tactic(auto, unfolding(crate::specs::Printing::message_record_refusal, messages::specs::Records::judge_message))]
+pub fn print_record(align: u32, s: &[u8], out: &mut [u8]) -> Result<usize, Refusal>
     ensures { Prints (message_record_refusal align s.now (length out.old))
         (message_line align (message_in s.now)) out.old result out.new }
 {
     if out.len() < ROOM {
-        return refuse(3);
+        return Err(Refusal::NoRoom);
     }
     if 3 < align {
-        return refuse(1);
+        return Err(Refusal::SettingOutOfRange);
     }
-    let j = messages::records::judge_message(s);
-    if !j.good {
-        return refuse(14);
-    }
-    let m = j.message;
+    let Some(m) = messages::records::judge_message(s) else {
+        return Err(Refusal::Damaged);
+    };
     print_message(align, m, out)
 }

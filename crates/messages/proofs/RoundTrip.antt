@@ -1,7 +1,7 @@
 -- Messages and their bytes: what is written is read back, and what is read is written again.
-use mathlib.Core.Path.{◌≡◌, refl, sym, ap, ◌∙◌}
+use mathlib.Core.Path.{◌≡◌, refl, sym, ◌∙◌}
 use mathlib.Core.List.{List, [], ◌∷◌, ◌++◌}
-use mathlib.Core.Bool.{Bool, true, false}
+use mathlib.Core.Bool.{true, false}
 use Prim.Native.Nat.{ℕ, zero, suc, ◌+◌, ◌-◌, ◌%◌, ◌≤◌}
 use native.Mathlib.Nat.{mod-eq_of_lt}
 use native.Mathlib.Omega.{arith}
@@ -9,17 +9,17 @@ use lib.ListN.{length, get_or, take, drop, replicate, length-append, length-repl
 use lib.Seq.{slice, take_all, drop_at, length-take-le, length-slice}
 use lib.Dec.{eqb}
 use borrow.Author.Tests.{eqb-true}
-use Rattle.common.specs.Choice.{pick}
+use Rattle.std.specs.Prelude.{Some, None, is_some}
 use Rattle.common.specs.Numbers.{Bytes, bytes_of, number_of, all_zero}
 use Rattle.common.proofs.Bools.{and_left}
+use Rattle.common.proofs.Choices.{by_test}
 use Rattle.common.proofs.Lists.{reads, reads_slice, reads_all}
 use Rattle.common.proofs.Numbers.{zeros_zero, number_back, bytes_back}
 use Rattle.ids.specs.Frames.{header_refusal, carried}
 use Rattle.ids.proofs.Frames.{carried_le, good_header_lem, good_id, good_format}
-use Rattle.messages.specs.Records.{stored, good_message, message_bytes, message_in, is_message, no_message}
+use Rattle.messages.specs.Records.{stored, good_message, message_bytes, message_in, is_message}
 use Rattle.messages.specs.Records.{judge_message}
 use Rattle.messages.specs.declared.Message.{Message}
-use Rattle.messages.specs.declared.JudgedMessage.{JudgedMessage}
 use Rattle.messages.proofs.Laws.{message_tests}
 
 -- ---- bytes read one by one
@@ -82,30 +82,31 @@ byte_7 m = refl
 
 -- the bytes of a good message are judged to be that message
 pub message_back : (m : Message) → length m.bytes ≡ 8 → good_message m ≡ true
-    → judge_message (message_bytes m) ≡ record { good = true; message = m }
+    → judge_message (message_bytes m) ≡ Some m
 unfolding judge_message is_message
 message_back m h g = rw (message_in_back m h (good_refusal m g), message_bytes_length m h, byte_7 m, g)
 
 -- ---- what is read is written again
 
--- bytes are judged good where they pass the test
-pub good_is : (s : List ℕ) → (judge_message s).good ≡ is_message s
+-- bytes hold a message where they pass the test
+pub good_is : (s : List ℕ) → is_some (judge_message s) ≡ is_message s
 unfolding judge_message
-good_is s = by (is_message s)
-  where
-    by : (t : Bool) → (pick {A = JudgedMessage} t (record { good = true; message = message_in s })
-        (record { good = false; message = no_message })).good ≡ t
-    by true = refl
-    by false = refl
+good_is s = by_test (is_message s) (λ e. rw e) (λ e. rw e)
 
--- then they are the message that they stand for, else zeros
-pub message_as : (s : List ℕ) → is_message s ≡ true → (judge_message s).message ≡ message_in s
+-- then it is the message that they stand for, else there is none
+pub message_as : (s : List ℕ) → is_message s ≡ true → judge_message s ≡ Some (message_in s)
 unfolding judge_message
 message_as s t = rw t
 
-damaged_as : (s : List ℕ) → is_message s ≡ false → (judge_message s).message ≡ no_message
+damaged_as : (s : List ℕ) → is_message s ≡ false → judge_message s ≡ None
 unfolding judge_message
 damaged_as s f = rw f
+
+-- the message that bytes hold is the one that they stand for
+judged_as : (s : List ℕ) (m : Message) → judge_message s ≡ Some m → (is_message s ≡ true) × (message_in s ≡ m)
+judged_as s m e = by_test (is_message s)
+    (λ t. (t, let f = message_as s t in cc))
+    (λ t. let f = damaged_as s t in absurd (cc))
 
 glue : {a b c d e f : List ℕ} → a ≡ d → b ≡ e → c ≡ f → (a ++ b) ++ c ≡ (d ++ e) ++ f
 glue p q r = cc
@@ -117,23 +118,21 @@ in_bytes s g l z =
     rw (mod-eq_of_lt (g 4), mod-eq_of_lt (g 5), mod-eq_of_lt (g 6), z) in
     glue (number_bytes s 0 g (omega arith)) h (sym (reads_slice s 8 8 (omega arith))) ∙ reads_all s 16 l
 
--- the message that bytes were judged to be has these bytes
-pub bytes_of_message : (s : List ℕ) → Bytes s → (judge_message s).good ≡ true → message_bytes (judge_message s).message ≡ s
-bytes_of_message s b g =
-    let t : is_message s ≡ true = sym (good_is s) ∙ g in
-    ap message_bytes (message_as s t) ∙ in_bytes s b (message_tests s t).0 (message_tests s t).1
+-- the message that bytes hold has these bytes
+pub bytes_of_message : (s : List ℕ) (m : Message) → Bytes s → judge_message s ≡ Some m → message_bytes m ≡ s
+bytes_of_message s m b e =
+    let j = judged_as s m e in
+    let t = message_tests s j.0 in
+    rw (← j.1) (in_bytes s b t.0 t.1)
 
--- what bytes are judged to be is a good message
-pub judged_good : (s : List ℕ) → (judge_message s).good ≡ true → good_message (judge_message s).message ≡ true
-judged_good s g =
-    let t : is_message s ≡ true = sym (good_is s) ∙ g in
-    ap good_message (message_as s t) ∙ (message_tests s t).2
+-- it is a good message
+pub judged_good : (s : List ℕ) (m : Message) → judge_message s ≡ Some m → good_message m ≡ true
+judged_good s m e = let j = judged_as s m e in rw (← j.1) (message_tests s j.0).2
 
--- and has eight data bytes, be it good or damaged
-pub judged_length : (s : List ℕ) → length (judge_message s).message.bytes ≡ 8
+-- and has eight data bytes
+pub judged_length : (s : List ℕ) (m : Message) → judge_message s ≡ Some m → length m.bytes ≡ 8
 unfolding message_in
-judged_length s = by (is_message s) refl
-  where
-    by : (t : Bool) → is_message s ≡ t → length (judge_message s).message.bytes ≡ 8
-    by true e = let l = (message_tests s e).0 in rw (message_as s e) (length-slice 8 16 s (omega arith))
-    by false e = rw (damaged_as s e)
+judged_length s m e =
+    let j = judged_as s m e in
+    let l = (message_tests s j.0).0 in
+    rw (← j.1) (length-slice 8 16 s (omega arith))

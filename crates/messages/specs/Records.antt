@@ -1,12 +1,11 @@
 -- Messages and their 16 bytes (01, "Frames and records").
-use Rattle.std.specs.Prelude.{ℕ, ◌-◌, ◌%◌, Bool, true, false, ◌&&◌, List, [], ◌∷◌, ◌++◌, length, get_or, take, drop, replicate, eqb}
+use Rattle.std.specs.Prelude.{ℕ, ◌-◌, ◌%◌, Bool, ◌&&◌, List, [], ◌∷◌, ◌++◌, length, get_or, take, drop, replicate, eqb, Option, Some, None}
 use Rattle.std.proofs.Math.Seq.{slice}
 use Rattle.common.specs.Choice.{pick}
 use Rattle.common.specs.Numbers.{bytes_of, number_of, all_zero}
 use Rattle.ids.specs.Frames.{good_header, carried}
 use Rattle.ids.specs.declared.Header.{Header}
 use Rattle.messages.specs.declared.Message.{Message}
-use Rattle.messages.specs.declared.JudgedMessage.{JudgedMessage}
 
 -- a message is 16 bytes
 abbrev pub message_size : ℕ
@@ -50,7 +49,6 @@ is_empty s = eqb (length s) message_size && all_zero s
 abbrev pub no_message : Message
 no_message = record { header = record { id = 0; format = 0; rtr = 0; dlc = 0 }; bytes = replicate 8 0 }
 
--- what any bytes hold: their message, or damaged
-unfoldable pub judge_message : List ℕ → JudgedMessage
-judge_message s =
-    pick (is_message s) (record { good = true; message = message_in s }) (record { good = false; message = no_message })
+-- what any bytes hold: their message, or none where they are damaged
+unfoldable pub judge_message : List ℕ → Option Message
+judge_message s = pick (is_message s) (Some (message_in s)) None

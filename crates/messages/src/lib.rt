@@ -7,15 +7,8 @@ pub mod records;
 use ids::Header;
 
 // A message, or the frame of an event: its header and its eight data bytes.
-#[derive(Clone, Copy)]
+#[derive(Clone, Copy, Default)]
 pub struct Message {
     pub header: Header,
     pub bytes: [u8; 8],
-}
-
-// A good message, or zeros for a damaged record.
-#[derive(Clone, Copy)]
-pub struct JudgedMessage {
-    pub good: bool,
-    pub message: Message,
 }

@@ -3,11 +3,11 @@ use Prim.Native.Nat.{ℕ, ◌+◌, ◌≤◌, ◌<◌}
 use mathlib.Core.Path.{◌≡◌, refl, ap, subst₂}
 use mathlib.Core.Bool.{Bool, true, false}
 use mathlib.Core.List.{List, [], ◌∷◌, map, append-nil}
-use mathlib.Core.Option.{Option, none as no-event, some}
 use native.Mathlib.Omega.{arith}
 use lib.ListN.{length}
 use lib.Dec.{ltb, eqb}
 use borrow.Author.Tests.{ltb-true, ltb-false}
+use Rattle.std.specs.Prelude.{Option, Some, None as no-event}
 use Rattle.common.specs.Choice.{pick}
 use Rattle.common.specs.Sublist.{none, keep, skip}
 use Rattle.common.proofs.Sublists.{sublist_append}
@@ -97,7 +97,7 @@ module _ (i : ℕ) (e : Event) (a b : Inbox) (f : Freer a b) where
 pub freer_noted : (s : Shared) (i : ℕ) (e : Option Event) (a b : Inbox) → Freer a b
     → Freer (noted s i e a) (noted s i e b)
 freer_noted s i no-event a b f = f
-freer_noted s i (some e) a b f = freer_arrival i e a b f s
+freer_noted s i (Some e) a b f = freer_arrival i e a b f s
 
 -- ---- a read of both, or of the second alone
 

@@ -2,10 +2,10 @@
 use Prim.Native.Nat.{ℕ, ◌+◌, ◌≤◌, ◌<◌}
 use mathlib.Core.Path.{◌≡◌, refl}
 use mathlib.Core.List.{List, [], ◌∷◌}
-use mathlib.Core.Option.{Option, none, some}
 use lib.ListN.{length}
 use lib.Dec.{ltb, eqb}
 use borrow.Author.Tests.{ltb-true, ltb-false}
+use Rattle.std.specs.Prelude.{Option, Some, None}
 use Rattle.common.proofs.Choices.{pick_is}
 use Rattle.filters.specs.EventMask.{mask_lets, is_mask}
 use Rattle.events.specs.Records.{code_of}
@@ -41,8 +41,8 @@ arrival_is R s i e b away masked recorded lost =
 
 -- an event, if there is one, is such an event
 abbrev pub IfAny : (Event → Type 0) → Option Event → Type 0
-IfAny E none = Unit {0}
-IfAny E (some e) = E e
+IfAny E None = Unit {0}
+IfAny E (Some e) = E e
 
 -- Q holds of all that call i, which raises an event E, can make of channel b: all stays, the event is recorded, lost,
 -- one is read; filter or mask change
@@ -57,8 +57,8 @@ pub record Turns (i : ℕ) (b : Inbox) (E : Event → Type 0) (Q : Inbox → Typ
 module _ (i : ℕ) (b : Inbox) (E : Event → Type 0) (Q : Inbox → Type 0) (w : Turns i b E Q) where
   -- the event that a call raises beside its answer, if any
   noted_turns : (s : Shared) (e : Option Event) → IfAny E e → Q (noted s i e b)
-  noted_turns s none h = w.kept
-  noted_turns s (some e) h =
+  noted_turns s None h = w.kept
+  noted_turns s (Some e) h =
       arrival_is (λ m. Q m.inbox) s i e b w.kept w.kept (w.recorded e h) (w.lost e h)
 
   -- the oldest is taken, if there is one
@@ -91,14 +91,14 @@ module _ (i : ℕ) (b : Box) (E : Event → Type 0) (Q : Inbox → Type 0) (w : 
   changes_turns : (s : Shared) (tick : ℕ) → E (event_of s.site 5 tick no_message) → Left (changes s tick i b)
   changes_turns s tick e =
       pick_is Left (good_shared s)
-      (λ h. noted_turns i b.inbox E Q w s (some (event_of s.site 5 tick no_message)) e) (λ h. w.kept)
+      (λ h. noted_turns i b.inbox E Q w s (Some (event_of s.site 5 tick no_message)) e) (λ h. w.kept)
 
   -- every call on the device
   does_turns : (x : DeviceCall) → Left (does i x b)
   unfolding does
   does_turns (raise code tick m) =
       pick_is Left (eqb (frame_refusal code m) 0)
-      (λ h. noted_turns i b.inbox E Q w b.shared (some (event_of b.shared.site code tick m)) (own code tick m))
+      (λ h. noted_turns i b.inbox E Q w b.shared (Some (event_of b.shared.site code tick m)) (own code tick m))
       (λ h. w.kept)
   does_turns (set_mode mode tick) = changes_turns _ tick (own 5 tick no_message)
   does_turns (set_format format tick) = changes_turns _ tick (own 5 tick no_message)
@@ -118,8 +118,8 @@ abbrev pub Any : Event → Type 0
 Any e = Unit {0}
 
 any : (e : Option Event) → IfAny Any e
-any none = tt
-any (some e) = tt
+any None = tt
+any (Some e) = tt
 
 -- every call, whatever events it raises
 pub step_any : (i : ℕ) (b : Box) (Q : Inbox → Type 0) → Turns i b.inbox Any Q → (room : ℕ) (x : Call)

@@ -2,9 +2,10 @@
 use Prim.Native.Nat.{ℕ, ◌≤◌}
 use mathlib.Core.Path.{◌≡◌, refl, ap, ◌∙◌}
 use mathlib.Core.List.{List, [], ◌∷◌, ◌++◌, map, map-append, append_assoc, append-nil}
-use mathlib.Core.Option.{Option, none, some, none-ne-some}
 use native.Mathlib.Omega.{arith}
 use lib.ListN.{length}
+use Rattle.std.specs.Prelude.{Option, Some, None}
+use Rattle.std.proofs.lemmas.Option.{none-some}
 use Rattle.messages.specs.declared.Message.{Message}
 use Rattle.sites.specs.declared.Site.{Site}
 use Rattle.settings.specs.declared.Shared.{Shared}
@@ -23,9 +24,9 @@ purged_are [] = refl
 purged_are (m ∷ ms) = ap (λ (l : List Message). m ∷ l) (purged_are ms)
 
 -- the last message taken is the one taken last
-last_took : (last : Option Message) (gs : List Gone) (m : Message) → last_taken last (gs ++ took m ∷ []) ≡ some m
+last_took : (last : Option Message) (gs : List Gone) (m : Message) → last_taken last (gs ++ took m ∷ []) ≡ Some m
 last_took last [] m = refl
-last_took last (took n ∷ gs) m = last_took (some n) gs m
+last_took last (took n ∷ gs) m = last_took (Some n) gs m
 last_took last (purged n ∷ gs) m = last_took last gs m
 
 -- every way that a call on a send channel can go
@@ -43,9 +44,9 @@ mailed_posts site o p = record {
       map-append message_of o.gone (took m ∷ []),
       append_assoc (map message_of o.gone) (m ∷ []) rest,
     );
-    last = λ n h. last_took none o.gone m ∙ h;
+    last = λ n h. last_took None o.gone m ∙ h;
   };
-  finished = λ tick m e. record { in_order = p.in_order; last = λ n h. absurd (none-ne-some n h) };
+  finished = λ tick m e. record { in_order = p.in_order; last = λ n h. absurd (none-some n h) };
   aborted = λ tick. record {
     in_order = rw (
       p.in_order,
@@ -53,7 +54,7 @@ mailed_posts site o p = record {
       purged_are o.buffer,
       append-nil (map message_of o.gone ++ o.buffer),
     );
-    last = λ n h. absurd (none-ne-some n h);
+    last = λ n h. absurd (none-some n h);
   };
 }
 
@@ -61,7 +62,7 @@ mailed_posts site o p = record {
 pub mailed : (s : Settings) (xs : List Asked) → Mailed (run 0 xs (fresh s)).outbox
 mailed s xs =
     sends_run Mailed mailed_posts 0 xs (fresh s)
-    (record { in_order = refl; last = λ m e. absurd (none-ne-some m e) })
+    (record { in_order = refl; last = λ m e. absurd (none-some m e) })
 
 -- ---- the buffer is bounded
 
@@ -86,7 +87,7 @@ buffer_bounded s xs = (sends_run (Fits s.buffer) (fits_posts s.buffer) 0 xs (fre
 -- ---- a take
 
 -- from an empty register
-oldest_moves : (site : Site) (tick : ℕ) (o : Outbox) (ms : List Message) → o.register ≡ none → o.buffer ≡ ms
+oldest_moves : (site : Site) (tick : ℕ) (o : Outbox) (ms : List Message) → o.register ≡ None → o.buffer ≡ ms
     → (takes site tick ms o).said.number ≡ 0 → TakeMoves o (takes site tick ms o)
 oldest_moves site tick o [] e g z = absurd (omega arith)
 oldest_moves site tick o (m ∷ rest) e g z =
@@ -95,8 +96,8 @@ oldest_moves site tick o (m ∷ rest) e g z =
 -- from any register
 register_moves : (site : Site) (tick : ℕ) (o : Outbox) (register : Option Message) → o.register ≡ register
     → (takes_into register site tick o).said.number ≡ 0 → TakeMoves o (takes_into register site tick o)
-register_moves site tick o none e z = oldest_moves site tick o o.buffer e refl z
-register_moves site tick o (some m) e z = absurd (omega arith)
+register_moves site tick o None e z = oldest_moves site tick o o.buffer e refl z
+register_moves site tick o (Some m) e z = absurd (omega arith)
 
 -- THEOREM. A take that answers 0 has moved the oldest message to the register, which was empty, and answers its bytes
 pub take_moves : (tick : ℕ) (s : Shared) (o : Outbox) → (posts (take tick) s o).said.number ≡ 0
@@ -105,7 +106,7 @@ unfolding posts
 take_moves tick s o z = register_moves s.site tick o o.register refl z
 
 -- THEOREM. With an empty register, a take answers 0 where a message waits
-pub take_answers : (tick : ℕ) (s : Shared) (o : Outbox) (m : Message) (rest : List Message) → o.register ≡ none
+pub take_answers : (tick : ℕ) (s : Shared) (o : Outbox) (m : Message) (rest : List Message) → o.register ≡ None
     → o.buffer ≡ m ∷ rest → (posts (take tick) s o).said.number ≡ 0
 unfolding posts
 take_answers tick s o m rest e g = rw (e, g)

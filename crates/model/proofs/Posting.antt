@@ -2,18 +2,17 @@
 use Prim.Native.Nat.{ℕ, ◌+◌, ◌<◌}
 use mathlib.Core.Path.{◌≡◌, refl}
 use mathlib.Core.List.{List, [], ◌∷◌, ◌++◌, map}
-use mathlib.Core.Option.{Option, none, some}
 use lib.ListN.{length}
 use lib.Dec.{ltb, eqb}
 use borrow.Author.Tests.{ltb-true}
+use Rattle.std.specs.Prelude.{Option, Some, None, Result, Ok, Err}
+use Rattle.common.specs.declared.refusals.Refusal.{Refusal}
 use Rattle.common.proofs.Choices.{pick_is}
 use Rattle.messages.specs.Records.{message_size}
 use Rattle.events.specs.Raised.{frame_refusal}
 use Rattle.messages.specs.declared.Message.{Message}
 use Rattle.message_text.specs.Reading.{read_message}
 use Rattle.message_text.specs.declared.Said.{Said as TextSaid}
-use Rattle.message_text.specs.declared.Answer.{Answer}
-use Rattle.message_text.specs.declared.Answer.TheVariants.{Taken, Refused}
 use Rattle.settings.specs.Ranges.{good_shared, format_of}
 use Rattle.settings.specs.Binary.{binary_refusal, sent_message}
 use Rattle.sites.specs.Sites.{good_site}
@@ -21,20 +20,20 @@ use Rattle.sites.specs.declared.Site.{Site}
 use Rattle.settings.specs.declared.Shared.{Shared}
 use Rattle.model.specs.Said.{Said, says, says_zeros, counts}
 use Rattle.model.specs.Outbox.{purged, Outbox, holding, SendCall, send, send_text, take, done, abort, Posted}
-use Rattle.model.specs.Outbox.{posted, put, text_says, put_text, takes, takes_into, finishes, aborts, posts}
+use Rattle.model.specs.Outbox.{posted, put, put_text, takes, takes_into, finishes, aborts, posts}
 use Rattle.model.specs.Box.{Box, Step, DeviceCall, raise, set_mode, set_format, set_site, does, Call, on_device}
 use Rattle.model.specs.Box.{on_receive, on_send, on_align, step, Asked, run}
 
 -- Q holds of each way that a call on channel o can go, at a site
 pub record Ways (site : Site) (o : Outbox) (Q : Posted → Type 0) : Type 0 where
-  pub kept : (a : Said) → Q (posted a o none)
+  pub kept : (a : Said) → Q (posted a o None)
   pub put_in : (a : Said) (m : Message) → a.number ≡ 0 → length o.buffer < o.places
-      → Q (posted a (holding o (o.buffer ++ m ∷ []) o.register (o.sent ++ m ∷ []) o.gone) none)
-  pub taken : (tick : ℕ) (m : Message) (rest : List Message) → o.register ≡ none → o.buffer ≡ m ∷ rest
+      → Q (posted a (holding o (o.buffer ++ m ∷ []) o.register (o.sent ++ m ∷ []) o.gone) None)
+  pub taken : (tick : ℕ) (m : Message) (rest : List Message) → o.register ≡ None → o.buffer ≡ m ∷ rest
       → Q (takes site tick (m ∷ rest) o)
-  pub finished : (tick : ℕ) (m : Message) → o.register ≡ some m → Q (finishes (some m) site tick o)
+  pub finished : (tick : ℕ) (m : Message) → o.register ≡ Some m → Q (finishes (Some m) site tick o)
   pub aborted : (tick : ℕ)
-      → Q (posted (counts (length o.buffer)) (holding o [] none o.sent (o.gone ++ map purged o.buffer))
+      → Q (posted (counts (length o.buffer)) (holding o [] None o.sent (o.gone ++ map purged o.buffer))
       (aborts o.register site tick))
 
 module _ (s : Shared) (o : Outbox) (Q : Posted → Type 0) (w : Ways s.site o Q) where
@@ -44,24 +43,24 @@ module _ (s : Shared) (o : Outbox) (Q : Posted → Type 0) (w : Ways s.site o Q)
       pick_is Q (ltb (length o.buffer) o.places) (λ h. w.put_in a m z (ltb-true _ _ h)) (λ h. w.kept (says 5))
 
   -- what a text says
-  text_is : (a : Answer) (bytes : List ℕ) → Q (put_text (record { answer = a; bytes = bytes }) o)
-  text_is (Taken h used) bytes = put_is (text_says (Taken h used)) (record { header = h; bytes = bytes }) refl
-  text_is (Refused number used) bytes = w.kept _
+  text_is : (said : Result Message Refusal) (used : ℕ) → Q (put_text (record { said = said; used = used }) o)
+  text_is (Ok m) used = put_is (counts used) m refl
+  text_is (Err why) used = w.kept _
 
   -- the oldest is taken, if there is one
-  oldest_is : (tick : ℕ) (ms : List Message) → o.register ≡ none → o.buffer ≡ ms → Q (takes s.site tick ms o)
+  oldest_is : (tick : ℕ) (ms : List Message) → o.register ≡ None → o.buffer ≡ ms → Q (takes s.site tick ms o)
   oldest_is tick [] e g = w.kept (says_zeros message_size 4)
   oldest_is tick (m ∷ rest) e g = w.taken tick m rest e g
 
   -- take
   take_is : (tick : ℕ) (register : Option Message) → o.register ≡ register → Q (takes_into register s.site tick o)
-  take_is tick none e = oldest_is tick o.buffer e refl
-  take_is tick (some m) e = w.kept (says_zeros message_size 5)
+  take_is tick None e = oldest_is tick o.buffer e refl
+  take_is tick (Some m) e = w.kept (says_zeros message_size 5)
 
   -- done
   done_is : (tick : ℕ) (register : Option Message) → o.register ≡ register → Q (finishes register s.site tick o)
-  done_is tick none e = w.kept (says 4)
-  done_is tick (some m) e = w.finished tick m e
+  done_is tick None e = w.kept (says 4)
+  done_is tick (Some m) e = w.finished tick m e
 
   -- what holds of each way holds of every call
   pub posts_is : (x : SendCall) → Q (posts x s o)
@@ -71,7 +70,7 @@ module _ (s : Shared) (o : Outbox) (Q : Posted → Type 0) (w : Ways s.site o Q)
       (λ h. put_is (says 0) (sent_message s m) refl) (λ h. w.kept (says (binary_refusal s m)))
   posts_is (send_text text) =
       let r : TextSaid = read_message s.align (format_of s s.format) text in
-      text_is r.answer r.bytes
+      text_is r.said r.used
   posts_is (take tick) = take_is tick o.register refl
   posts_is (done tick) = done_is tick o.register refl
   posts_is (abort tick) = w.aborted tick

@@ -3,10 +3,10 @@ use Prim.Native.Nat.{ℕ, zero, suc, ◌+◌}
 use mathlib.Core.Path.{◌≡◌, refl, ap, subst, ◌∙◌}
 use mathlib.Core.Bool.{Bool, true, false}
 use mathlib.Core.List.{List, [], ◌∷◌}
-use mathlib.Core.Option.{Option, none, some}
 use native.Mathlib.Nat.{add-zero}
 use native.Mathlib.Omega.{arith}
 use lib.Dec.{eqb}
+use Rattle.std.specs.Prelude.{Option, Some, None}
 use Rattle.common.specs.All.{All}
 use Rattle.common.proofs.All.{all_append}
 use Rattle.common.proofs.Choices.{by_test, pick_is}
@@ -37,8 +37,8 @@ Of site e = e.site ≡ site
 
 -- what an abort raises
 aborts_of : (site : Site) (tick : ℕ) (register : Option Message) → IfAny (Of site) (aborts register site tick)
-aborts_of site tick none = tt
-aborts_of site tick (some m) = event_site site 3 tick m
+aborts_of site tick None = tt
+aborts_of site tick (Some m) = event_site site 3 tick m
 
 -- a call on the send channel raises an event of the shared site, or none
 posts_of : (s : Shared) (o : Outbox) (x : SendCall) → IfAny (Of s.site) (posts x s o).raises

@@ -3,13 +3,14 @@ use Prim.Native.Nat.{ℕ, zero, suc}
 use mathlib.Core.Path.{◌≡◌, refl, sym, ◌∙◌}
 use mathlib.Core.Bool.{true, false, not}
 use mathlib.Core.List.{List, [], ◌∷◌}
-use mathlib.Core.Option.{Option, none, some}
 use lib.ListN.{length}
 use lib.Dec.{ltb, leb, eqb}
 use borrow.Author.Tests.{not-true}
+use Rattle.std.specs.Prelude.{Option, Some, None}
 use Rattle.common.specs.Choice.{pick}
 use Rattle.common.specs.Numbers.{among, all_zero}
-use Rattle.common.specs.Refusals.{is_refusal}
+use Rattle.common.specs.Refusals.{is_refusal, refusal_number}
+use Rattle.common.specs.declared.refusals.Refusal.{Refusal}
 use Rattle.common.proofs.Bools.{apart}
 use Rattle.common.proofs.Choices.{pick_is}
 use Rattle.ids.specs.Ids.{is_format}
@@ -149,7 +150,7 @@ module _ (i room : ℕ) (b : Box) where
 
   -- a binary message or what a text says is put in, where there is a place
   put_sound : (x : SendCall) (a : Said) (m : Message) → a.number ≡ 0 → among 0 (usual (on_send x)) ≡ true
-      → SoundPosted x (posted (says 5) b.outbox none) → SoundPosted x (put a m b.outbox)
+      → SoundPosted x (posted (says 5) b.outbox None) → SoundPosted x (put a m b.outbox)
   unfolding is_refusal
   put_sound x a m z h five =
       either (SoundPosted x) (ltb (length b.outbox.buffer) b.outbox.places) (succeeds (rw z) (rw z h)) five
@@ -164,21 +165,22 @@ module _ (i room : ℕ) (b : Box) where
   take_sound : (tick : ℕ) (register : Option Message)
       → SoundPosted (take tick) (takes_into register b.shared.site tick b.outbox)
   unfolding usual beside
-  take_sound tick none = takes_sound tick b.outbox.buffer
-  take_sound tick (some m) = stays (λ g. refl) refl refl refl
+  take_sound tick None = takes_sound tick b.outbox.buffer
+  take_sound tick (Some m) = stays (λ g. refl) refl refl refl
 
   -- done
   done_sound : (tick : ℕ) (register : Option Message)
       → SoundPosted (done tick) (finishes register b.shared.site tick b.outbox)
   unfolding usual beside is_refusal
-  done_sound tick none = stays (λ g. refl) refl refl refl
-  done_sound tick (some m) = succeeds refl refl
+  done_sound tick None = stays (λ g. refl) refl refl refl
+  done_sound tick (Some m) = succeeds refl refl
 
   -- a refused text with an end answers the bytes used
-  text_sound : (text : List ℕ) (n : ℕ) → among n text_numbers ≡ true
-      → SoundPosted (send_text text) (put_text (refused n (used_of text)) b.outbox)
+  text_sound : (text : List ℕ) (why : Refusal) → among (refusal_number why) text_numbers ≡ true
+      → SoundPosted (send_text text) (put_text (refused why (used_of text)) b.outbox)
   unfolding usual beside
-  text_sound text n h =
+  text_sound text why h =
+      let n = refusal_number why in
       let other = each_is (λ n. not (among n (2 ∷ 5 ∷ 6 ∷ []))) n text_numbers refl h in
       stays (λ g. each_is (λ n. among n (usual (on_send (send_text text)))) n text_numbers refl h)
       (rw (not-true (among n (2 ∷ 5 ∷ 6 ∷ [])) other)) refl refl

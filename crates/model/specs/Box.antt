@@ -2,8 +2,7 @@
 -- what each call answers and leaves.
 -- This is what the promises are about. That the code over its tables answers exactly this, call after call,
 -- is a theorem.
-use Rattle.std.specs.Prelude.{ℕ, ◌+◌, List, [], ◌∷◌, eqb}
-use Rattle.std.proofs.Math.Option.{Option, none, some}
+use Rattle.std.specs.Prelude.{ℕ, ◌+◌, List, [], ◌∷◌, eqb, Option, Some, None}
 use Rattle.common.specs.Choice.{pick}
 use Rattle.messages.specs.Records.{message_in, no_message}
 use Rattle.events.specs.Records.{event_in}
@@ -42,7 +41,7 @@ fresh s = record {
     arrived = [];
     read = [];
   };
-  outbox = record { tx = s.tx; places = s.buffer; buffer = []; register = none; sent = []; gone = [] };
+  outbox = record { tx = s.tx; places = s.buffer; buffer = []; register = None; sent = []; gone = [] };
 }
 
 -- what a call answers, and the box after it
@@ -63,14 +62,14 @@ pub data DeviceCall : Type 0 where
 
 -- the event that call i raises beside its answer, if any, arrives in the queue
 abbrev pub noted : Shared → ℕ → Option Event → Inbox → Inbox
-noted s i none b = b
-noted s i (some e) b = (arrival s i e b).inbox
+noted s i None b = b
+noted s i (Some e) b = (arrival s i e b).inbox
 
 -- a change of mode or format raises code 5 after the change: 1 for a pair out of range
 abbrev pub changes : Shared → ℕ → ℕ → Box → Step
 changes s tick i b =
     pick (good_shared s)
-    (steps (says 0) (box s (noted s i (some (event_of s.site 5 tick no_message)) b.inbox) b.outbox))
+    (steps (says 0) (box s (noted s i (Some (event_of s.site 5 tick no_message)) b.inbox) b.outbox))
     (steps (says 1) b)
 
 -- call i, on the device

@@ -1,6 +1,5 @@
 -- What is promised of a box after any calls.
-use Rattle.std.specs.Prelude.{ℕ, zero, suc, ◌+◌, ◌≤◌, min, ◌≡◌, ◌||◌, List, [], ◌∷◌, ◌++◌, map, length, eqb}
-use Rattle.std.proofs.Math.Option.{Option, none, some}
+use Rattle.std.specs.Prelude.{ℕ, zero, suc, ◌+◌, ◌≤◌, min, ◌≡◌, ◌||◌, List, [], ◌∷◌, ◌++◌, map, length, eqb, Option, Some, None}
 use Rattle.common.specs.All.{All}
 use Rattle.common.specs.Choice.{pick}
 use Rattle.common.specs.Sublist.{Sublist}
@@ -135,19 +134,19 @@ message_of (purged m) = m
 -- the last message taken, where `last` was taken before
 abbrev pub last_taken : Option Message → List Gone → Option Message
 last_taken last [] = last
-last_taken last (took m ∷ gs) = last_taken (some m) gs
+last_taken last (took m ∷ gs) = last_taken (Some m) gs
 last_taken last (purged m ∷ gs) = last_taken last gs
 
 -- every message sent was taken or purged, in the order sent, or waits; the register is empty or holds the last
 -- message taken
 pub record Mailed (o : Outbox) : Type 0 where
   pub in_order : o.sent ≡ map message_of o.gone ++ o.buffer
-  pub last : (m : Message) → o.register ≡ some m → last_taken none o.gone ≡ some m
+  pub last : (m : Message) → o.register ≡ Some m → last_taken None o.gone ≡ Some m
 
 -- a take that answers 0 has moved the oldest message to the register, which was empty, and answers its bytes
 pub record TakeMoves (o : Outbox) (p : Posted) : Type 0 where
   pub message : Message
-  pub was_empty : o.register ≡ none
+  pub was_empty : o.register ≡ None
   pub was_oldest : o.buffer ≡ message ∷ p.outbox.buffer
-  pub holds : p.outbox.register ≡ some message
+  pub holds : p.outbox.register ≡ Some message
   pub bytes : p.said.bytes ≡ message_bytes message

@@ -1,15 +1,29 @@
 -- The numbers of a message text, and its ends (01, "The two texts").
-use Rattle.std.specs.Prelude.{ℕ, ◌+◌, ◌*◌, List, [], ◌∷◌, ◌++◌, Bool, ltb, eqb}
+use Rattle.std.specs.Prelude.{ℕ, ◌+◌, ◌*◌, List, [], ◌∷◌, ◌++◌, Bool, true, false}
 use Rattle.common.specs.Choice.{pick}
 use Rattle.digits.specs.Reading.{byte_kind}
+use Rattle.digits.specs.declared.reading.ByteKind.{ByteKind}
+use Rattle.digits.specs.declared.reading.ByteKind.TheVariants.{Digit, Separator, End}
+
+-- what an end is
+abbrev pub end_kind : ByteKind → Bool
+end_kind (Digit d) = false
+end_kind Separator = false
+end_kind End = true
+
+-- what a digit is
+abbrev pub digit_kind : ByteKind → Bool
+digit_kind (Digit d) = true
+digit_kind Separator = false
+digit_kind End = false
 
 -- CR, LF and zero are ends
 abbrev pub is_end : ℕ → Bool
-is_end b = eqb (byte_kind b) 17
+is_end b = end_kind (byte_kind b)
 
 -- a hexadecimal digit
 abbrev pub is_digit : ℕ → Bool
-is_digit b = ltb (byte_kind b) 16
+is_digit b = digit_kind (byte_kind b)
 
 -- where a reader of numbers stands: between two numbers, or within one whose digits so far make v
 pub data Place : Type 0 where
@@ -26,14 +40,17 @@ abbrev pub grown : Place → ℕ → Place
 grown between d = within d
 grown (within v) d = within (v * 16 + d)
 
--- the place after a byte that is no end: a digit goes on with a number, a separator leaves it
-abbrev pub after : Place → ℕ → Place
-after p b = pick (is_digit b) (grown p (byte_kind b)) between
+-- the place after a byte: a digit goes on with a number, any other byte leaves it
+abbrev pub after : Place → ByteKind → Place
+after p (Digit d) = grown p d
+after p Separator = between
+after p End = between
 
 -- the numbers from a place on, up to the first end: any number of digits each
 unfoldable pub numbers_from : Place → List ℕ → List ℕ
 numbers_from p [] = ended p
-numbers_from p (b ∷ bs) = pick (is_end b) (ended p) (pick (is_digit b) [] (ended p) ++ numbers_from (after p b) bs)
+numbers_from p (b ∷ bs) =
+    pick (is_end b) (ended p) (pick (is_digit b) [] (ended p) ++ numbers_from (after p (byte_kind b)) bs)
 
 -- the numbers of a text
 abbrev pub numbers : List ℕ → List ℕ

@@ -3,8 +3,9 @@
 
 pub mod scanning;
 
-// The first eleven numbers of a text, each at most 2 ^ 32, and how many there are, at most 12.
-#[derive(Clone, Copy)]
+// The first eleven numbers of a text, each at most 2 ^ 32, and how many there are, at most 12: the count is one more than
+// the list can hold where numbers are left out.
+#[derive(Clone, Copy, Default)]
 pub struct Kept {
     pub count: usize,
     pub at: [u64; 11],

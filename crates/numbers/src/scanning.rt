@@ -1,61 +1,67 @@
 // A message text scanned once, from its first byte through its run of ends.
 ghost use Rattle.std.specs.Prelude.{◌≡◌, ◌+◌, length, drop};
-ghost use Rattle.digits.specs.Reading.{capped};
-ghost use Rattle.numbers.specs.Numbers.{numbers, before_end, end_run};
-ghost use Rattle.numbers.specs.Scan.{kept, kept_more, ScanMet};
+ghost use Rattle.numbers.specs.Numbers.{is_end, before_end, end_run};
+ghost use Rattle.numbers.specs.Scan.{kept_more, ScanMet};
 
 use crate::{Kept, Scanned};
+use digits::reading::{ByteKind, byte_kind, with_digit};
 
-// The number v kept behind n others, and how many there are then; the twelfth is only counted.
-fn keep(at: &mut [u64; 11], n: usize, v: u64) -> usize
-    requires { length at.old ≡ 11 }
-    ensures { kept result at.new ≡ kept_more (kept n at.old) v }
-{
-    if 11 <= n {
-        return 12;
+impl Kept {
+    // One number more; the twelfth is only counted.
+    fn keep(&mut self, v: u64)
+        ensures { self.new ≡ kept_more self.old v }
+    {
+        if self.count < 11 {
+            self.at[self.count] = v;
+        }
+        self.count = self.count.min(11) + 1;
     }
-    at[n] = v;
-    n + 1
 }
 
-// The numbers of a text, up to its first end or through its twelfth number.
+// The numbers of a text, up to its first end or through its twelfth number; both loops go on from one place.
+#[tactic(auto, using(crate::proofs::Keeping::met_last, crate::proofs::Keeping::met_end))]
 pub fn scan(text: &[u8]) -> Scanned
     ensures { ScanMet text.now result }
 {
-    let mut at = [0u64; 11];
-    let mut n: usize = 0;
+    let mut kept = Kept::default();
     let mut i: usize = 0;
     'numbers: while i < text.len() {
-        let k = digits::reading::byte_kind(text[i]);
-        if k == 17 {
-            break 'numbers;
-        }
-        i += 1;
-        if k < 16 {
-            let mut v = k as u64;
-            'digits: while i < text.len() {
-                let d = digits::reading::byte_kind(text[i]);
-                if d == 17 {
-                    n = keep(&mut at, n, v);
-                    break 'numbers;
-                }
+        let mut v = match byte_kind(text[i]) {
+            ByteKind::Digit(d) => d as u64,
+            ByteKind::Separator => {
                 i += 1;
-                if 16 <= d {
+                continue 'numbers;
+            }
+            ByteKind::End => break 'numbers,
+        };
+        i += 1;
+        'digits: while i < text.len() {
+            match byte_kind(text[i]) {
+                ByteKind::Digit(d) => v = with_digit(v, d),
+                ByteKind::Separator => {
+                    i += 1;
                     break 'digits;
                 }
-                v = digits::reading::with_digit(v, d);
+                ByteKind::End => {
+                    kept.keep(v);
+                    break 'numbers;
+                }
             }
-            n = keep(&mut at, n, v);
-            if n == 12 {
-                break 'numbers;
-            }
+            i += 1;
+        }
+        kept.keep(v);
+        if kept.count == 12 {
+            break 'numbers;
         }
     }
-    let kept = Kept { count: n, at: at };
-    Scanned {
-        kept: kept,
-        stop: i,
-    }
+    Scanned { kept, stop: i }
+}
+
+// CR, LF or zero.
+fn is_end(b: u8) -> bool
+    ensures { result ≡ is_end b }
+{
+    matches!(byte_kind(b), ByteKind::End)
 }
 
 // Where the first end from a position on stands, or the text's length.
@@ -63,14 +69,12 @@ pub fn scan(text: &[u8]) -> Scanned
 pub fn first_end(text: &[u8], from: usize) -> usize
     ensures { result ≡ from + before_end (drop from text.now) }
 {
-    let mut i = from;
-    while i < text.len() {
-        if digits::reading::byte_kind(text[i]) == 17 {
-            break;
+    for i in from..text.len() {
+        if is_end(text[i]) {
+            return i;
         }
-        i += 1;
     }
-    i
+    from.max(text.len())
 }
 
 // The position after the ends that stand in a row at a position.
@@ -78,12 +82,10 @@ pub fn first_end(text: &[u8], from: usize) -> usize
 pub fn after_ends(text: &[u8], from: usize) -> usize
     ensures { result ≡ from + end_run (drop from text.now) }
 {
-    let mut i = from;
-    while i < text.len() {
-        if digits::reading::byte_kind(text[i]) != 17 {
-            break;
+    for i in from..text.len() {
+        if !is_end(text[i]) {
+            return i;
         }
-        i += 1;
     }
-    i
+    from.max(text.len())
 }

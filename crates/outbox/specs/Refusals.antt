@@ -1,12 +1,11 @@
 -- The refusal of each call on a send channel: 0, or the first that applies (01, "Refusal numbers").
 use Rattle.std.specs.Prelude.{ℕ, Bool, ◌&&◌, List, length, ltb, eqb}
 use Rattle.common.specs.Choice.{pick}
-use Rattle.messages.specs.Records.{message_in, is_message, no_message}
+use Rattle.messages.specs.Records.{is_message}
 use Rattle.settings.specs.Ranges.{good_shared}
 use Rattle.settings.specs.declared.Shared.{Shared}
 use Rattle.buffer.specs.Channel.{good_send, send_fits, oldest}
 use Rattle.buffer.specs.declared.Send.{Send}
-use Rattle.outbox.specs.declared.Found.{Found}
 
 -- settings and channel are possible: else 2
 unfoldable pub possible : Shared → Send → Bool
@@ -29,15 +28,6 @@ wait_refusal h s n = pick (ready h s n) (pick s.held 5 (pick (eqb s.ring.count 0
 unfoldable pub take_refusal : Shared → Send → List ℕ → ℕ
 take_refusal h s t =
     pick (eqb (wait_refusal h s (length t)) 0) (pick (is_message (oldest s t)) 0 14) (wait_refusal h s (length t))
-
--- the message that a take may move, or its refusal
-abbrev pub not_found : ℕ → Found
-not_found n = record { number = n; message = no_message }
-
-unfoldable pub found : Shared → Send → List ℕ → Found
-found h s t =
-    pick (eqb (take_refusal h s t) 0) (record { number = 0; message = message_in (oldest s t) })
-    (not_found (take_refusal h s t))
 
 -- done: 2, 4 where the register is empty
 unfoldable pub done_refusal : Shared → Send → ℕ

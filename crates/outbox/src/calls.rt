@@ -1,171 +1,111 @@
 // Every call on a send channel: its refusal, or its effect.
-ghost use Rattle.std.specs.Prelude.{◌≡◌, [], replicate};
-ghost use Rattle.messages.specs.Records.{message_size};
-ghost use Rattle.outbox.specs.Calls.{sent_of, taken_of, emptied_of, WriteMet, refused, reads, used_beside, sent};
-ghost use Rattle.outbox.specs.Calls.{text_sent, taken, finished, aborted};
+ghost use Rattle.std.specs.Prelude.{◌≡◌, [], IfOk};
+ghost use Rattle.common.specs.Refusals.{number_in, Answers};
+ghost use Rattle.outbox.specs.Calls.{Outcome, Leaves, Writes, sent, text_sent, taken, finished, aborted};
 
-use crate::{Emptied, Read, Sent, Taken, moves, refusals};
-use buffer::{Send, channel};
+use crate::{Aborted, Taken, TextSent, checks};
+use buffer::Send;
+use common::refusals::Refusal;
+use events::Raise;
+use message_text::Said;
 use messages::Message;
-use messages::records::MESSAGE;
-use settings::Shared;
-
-// The answers of a refused call: the channel stays, nothing is raised.
-fn not_sent(number: u32, value: usize, s: Send) -> Sent
-    ensures { result ≡ sent_of (refused number value [] s []) }
-{
-    Sent {
-        number: number,
-        value: value,
-        send: s,
-    }
-}
-
-fn not_taken(number: u32, s: Send) -> Taken
-    ensures { result ≡ taken_of (refused number 0 (replicate message_size 0) s []) }
-{
-    let b = [0u8; MESSAGE];
-    let none = moves::raised_if(false, 0, 0, messages::records::no_message());
-    Taken {
-        number: number,
-        bytes: b,
-        send: s,
-        raised: none,
-    }
-}
-
-fn not_emptied(number: u32, s: Send) -> Emptied
-    ensures { result ≡ emptied_of (refused number 0 [] s []) }
-{
-    let none = moves::raised_if(false, 0, 0, messages::records::no_message());
-    Emptied {
-        number: number,
-        value: 0,
-        send: s,
-        raised: none,
-    }
-}
+use settings::{Shared, txmode};
 
 // Sends a message given in binary: format 0, 1 or 2, aligned identifier.
-pub fn send(h: Shared, s: Send, m: Message, table: &mut [u8]) -> Sent
-    ensures { WriteMet (sent h s m table.old) result table.new }
+#[tactic(auto, unfolding(crate::specs::Calls::sent, crate::specs::Refusals::put_refusal), using(crate::proofs::Laws::judged))]
+pub fn send(h: Shared, s: &mut Send, m: Message, table: &mut [u8]) -> Result<(), Refusal>
+    ensures { Writes (sent h s.old m table.old) (number_in result) s.new table.new }
 {
-    let b = settings::binary::bring(h, m);
-    let n = refusals::put_refusal(h, s, table.len(), b.number);
-    if n != 0 {
-        return not_sent(n, 0, s);
-    }
-    let kept = b.message;
-    moves::put(s, kept, 0, table)
+    checks::check_ready(h, *s, table.len())?;
+    let kept = h.bring(m)?;
+    checks::check_room(*s)?;
+    s.put(kept, table);
+    Ok(())
 }
 
-// What a text says in the default format: its message, or why it is none, and the bytes used.
-fn read(h: Shared, text: &[u8]) -> Read
-    ensures { result ≡ reads h text.now }
+// Sends the message at the front of a text, in the default format; beside 2 and 5 no byte is used.
+#[tactic(auto, unfolding(crate::specs::Calls::text_sent, crate::specs::Refusals::put_refusal), using(crate::proofs::Laws::judged, crate::proofs::Laws::text_not_2))]
+pub fn send_text(h: Shared, s: &mut Send, text: &[u8], table: &mut [u8]) -> TextSent
+    ensures write { Writes (text_sent h s.old text.now table.old) (number_in result.sent) s.new table.new }
+    ensures used { let o : Outcome = text_sent h s.old text.now table.old in result.used ≡ o.value }
 {
-    let format = settings::ranges::format_of(h, h.format);
-    let said = message_text::reading::read_message(h.align, format, text);
-    let answer = said.answer;
-    let message_text::Answer::Taken(head, used) = answer else {
-        let none = messages::records::no_message();
-        return Read {
-            number: message_text::reading::number_of(answer),
-            used: message_text::reading::used_by(answer),
-            message: none,
+    if let Err(why) = checks::check_ready(h, *s, table.len()) {
+        return TextSent {
+            used: 0,
+            sent: Err(why),
+        };
+    }
+    let format = h.format_of(h.format);
+    let Said { said, used } = message_text::reading::read_message(h.align, format, text);
+    let Ok(message) = said else {
+        return TextSent {
+            used,
+            sent: said.and(Ok(())),
         };
     };
-    let b = said.bytes;
-    let m = Message {
-        header: head,
-        bytes: b,
-    };
-    Read {
-        number: 0,
-        used: used,
-        message: m,
+    if let Err(why) = checks::check_room(*s) {
+        return TextSent {
+            used: 0,
+            sent: Err(why),
+        };
     }
-}
-
-// The bytes used, beside a text's own refusal; 0 beside any other.
-fn used_beside(number: u32, r: Read) -> usize
-    ensures { result ≡ used_beside number r }
-{
-    if number != r.number {
-        return 0;
-    }
-    r.used
-}
-
-// Sends the message at the front of a text, in the default format; answers the bytes used.
-pub fn send_text(h: Shared, s: Send, text: &[u8], table: &mut [u8]) -> Sent
-    ensures { WriteMet (text_sent h s text.now table.old) result table.new }
-{
-    let r = read(h, text);
-    let n = refusals::put_refusal(h, s, table.len(), r.number);
-    if n != 0 {
-        return not_sent(n, used_beside(n, r), s);
-    }
-    let m = r.message;
-    moves::put(s, m, r.used, table)
+    s.put(message, table);
+    TextSent { used, sent: Ok(()) }
 }
 
 // Moves the oldest message to the register.
-pub fn take(h: Shared, s: Send, tick: u32, table: &[u8]) -> Taken
-    ensures { result ≡ taken_of (taken h s tick table.now) }
+#[tactic(auto, unfolding(crate::specs::Calls::taken), using(crate::proofs::Laws::may_take))]
+pub fn take(h: Shared, s: &mut Send, tick: u32, table: &[u8]) -> Result<Taken, Refusal>
+    ensures leaves { Leaves (taken h s.old tick table.now) (number_in result) s.new }
+    ensures bytes { let o : Outcome = taken h s.old tick table.now in IfOk result (λ t. t.bytes ≡ o.bytes) }
+    ensures raised { let o : Outcome = taken h s.old tick table.now in IfOk result (λ t. t.raised ≡ o.raised) }
 {
-    let f = refusals::find(h, s, table);
-    if f.number != 0 {
-        return not_taken(f.number, s);
-    }
-    let m = f.message;
-    let b = moves::bytes_of(m);
-    let next = channel::after_take(s, m);
-    let raised = moves::raised_if(settings::txmode::raises_at_take(s.tx), 2, tick, m);
-    Taken {
-        number: 0,
-        bytes: b,
-        send: next,
-        raised: raised,
-    }
+    let frame = checks::find_oldest(h, *s, table)?;
+    s.take(frame);
+    let raised = txmode::raises_at_take(s.tx).then_some(Raise {
+        code: 2,
+        tick,
+        frame,
+    });
+    Ok(Taken {
+        bytes: frame.record(),
+        raised,
+    })
 }
 
-// Empties the register: its message was transmitted.
-#[tactic(auto, unfolding(crate::specs::Calls::finished))]
-pub fn done(h: Shared, s: Send, tick: u32) -> Emptied
-    ensures { result ≡ emptied_of (finished h s tick []) }
+// Empties the register, whose message was transmitted: answers the event that is raised.
+#[tactic(auto, unfolding(crate::specs::Calls::finished, crate::specs::Refusals::done_refusal, crate::specs::Refusals::possible))]
+pub fn done(h: Shared, s: &mut Send, tick: u32) -> Result<Option<Raise>, Refusal>
+    ensures leaves { Leaves (finished h s.old tick []) (number_in result) s.new }
+    ensures raised { let o : Outcome = finished h s.old tick [] in IfOk result (λ r. r ≡ o.raised) }
 {
-    let n = refusals::done_refusal(h, s);
-    if n != 0 {
-        return not_emptied(n, s);
+    h.check(*s)?;
+    if !s.held {
+        return Err(Refusal::NothingThere);
     }
-    let m = s.message;
-    let next = channel::after_done(s);
-    let raised = moves::raised_if(settings::txmode::raises_at_done(s.tx), 2, tick, m);
-    Emptied {
-        number: 0,
-        value: 0,
-        send: next,
-        raised: raised,
-    }
+    let frame = s.message;
+    s.finish();
+    Ok(txmode::raises_at_done(s.tx).then_some(Raise {
+        code: 2,
+        tick,
+        frame,
+    }))
 }
 
-// Empties the register, aborting its message, and purges the buffer; answers how many were purged.
-#[tactic(auto, unfolding(crate::specs::Calls::aborted))]
-pub fn abort(h: Shared, s: Send, tick: u32) -> Emptied
-    ensures { result ≡ emptied_of (aborted h s tick []) }
+// Empties the register, aborting its message, and purges the buffer.
+#[tactic(auto, unfolding(crate::specs::Calls::aborted, crate::specs::Refusals::abort_refusal, crate::specs::Refusals::possible))]
+pub fn abort(h: Shared, s: &mut Send, tick: u32) -> Result<Aborted, Refusal>
+    ensures leaves { Leaves (aborted h s.old tick []) (number_in result) s.new }
+    ensures purged { let o : Outcome = aborted h s.old tick [] in IfOk result (λ a. a.purged ≡ o.value) }
+    ensures raised { let o : Outcome = aborted h s.old tick [] in IfOk result (λ a. a.raised ≡ o.raised) }
 {
-    let n = refusals::abort_refusal(h, s);
-    if n != 0 {
-        return not_emptied(n, s);
-    }
-    let ring = s.ring;
-    let m = s.message;
-    let next = channel::after_abort(s);
-    let raised = moves::raised_if(s.held, 3, tick, m);
-    Emptied {
-        number: 0,
-        value: ring.count as usize,
-        send: next,
-        raised: raised,
-    }
+    h.check(*s)?;
+    let purged = s.ring.count;
+    let raised = s.held.then_some(Raise {
+        code: 3,
+        tick,
+        frame: s.message,
+    });
+    s.abort();
+    Ok(Aborted { purged, raised })
 }

@@ -1,60 +1,31 @@
 // One send channel: every call on it, over the shared settings, the channel and its table.
-// A call is a refusal and an effect.
+// A call is a check, which may refuse it, and an effect.
 #![tactic(auto)]
 
 pub mod calls;
-mod moves;
-mod refusals;
+mod checks;
 
-use buffer::Send;
-use messages::Message;
+use common::refusals::Refusal;
+use events::Raise;
 use messages::records::MESSAGE;
 
-// The event that a call raises, to be carried to a receive channel: its code, or 0 for none, tick and message.
+// What send_text answers: the bytes of text used, refused or not, and whether the message was put in.
 #[derive(Clone, Copy)]
-pub struct Raised {
-    pub code: u32,
-    pub tick: u32,
-    pub message: Message,
+pub struct TextSent {
+    pub used: usize,
+    pub sent: Result<(), Refusal>,
 }
 
-// The answer of send and send_text: the paper's number, the bytes of text used, and the channel after the call.
-#[derive(Clone, Copy)]
-pub struct Sent {
-    pub number: u32,
-    pub value: usize,
-    pub send: Send,
-}
-
-// The answer of take: the message's bytes, and the event that the call raises.
+// What take answers: the message's bytes, and the event that the call raises.
 #[derive(Clone, Copy)]
 pub struct Taken {
-    pub number: u32,
     pub bytes: [u8; MESSAGE],
-    pub send: Send,
-    pub raised: Raised,
+    pub raised: Option<Raise>,
 }
 
-// The answer of done and abort: how many messages were purged, and the event that the call raises.
+// What abort answers: how many messages were purged, and the event that the call raises.
 #[derive(Clone, Copy)]
-pub struct Emptied {
-    pub number: u32,
-    pub value: usize,
-    pub send: Send,
-    pub raised: Raised,
-}
-
-// The oldest message, which a take may move: 0, or the refusal's number and zeros.
-#[derive(Clone, Copy)]
-pub struct Found {
-    pub number: u32,
-    pub message: Message,
-}
-
-// What a text says: 0 and the message, or the refusal's number and zeros; beside each the bytes used.
-#[derive(Clone, Copy)]
-pub struct Read {
-    pub number: u32,
-    pub used: usize,
-    pub message: Message,
+pub struct Aborted {
+    pub purged: u32,
+    pub raised: Option<Raise>,
 }

@@ -4,12 +4,11 @@ use Prim.Native.Nat.{ℕ}
 use mathlib.Core.Path.{◌≡◌, refl, sym, subst, ◌∙◌}
 use mathlib.Core.Bool.{Bool, true, false, not, ◌||◌}
 use mathlib.Core.List.{List, ◌++◌}
-use mathlib.Core.Option.{Option, none, some}
 use native.Mathlib.Omega.{arith}
 use lib.ListN.{length, drop}
 use lib.Dec.{ltb}
+use Rattle.std.specs.Prelude.{Option, Some, None}
 use Rattle.common.specs.Choice.{pick}
-use Rattle.common.proofs.Bools.{apart}
 use Rattle.filters.specs.EventMask.{mask_lets}
 use Rattle.messages.specs.Records.{good_message}
 use Rattle.events.specs.Records.{event_size, code_of, stamped}
@@ -50,8 +49,8 @@ receive_possible r q b h = rw (h.settings, h.events.numbers)
 
 register_possible : (s : Send) (m : Option Message) → Register s.held s.message m
     → (not s.held || good_message s.message) ≡ true
-register_possible s none h = rw h.0
-register_possible s (some m) h = rw (h.0, h.1) h.2.whole
+register_possible s None h = rw h.0
+register_possible s (Some m) h = rw (h.0, h.1) h.2.whole
 
 pub send_possible : (s : Send) (t : List ℕ) (o : Outbox) → Sends s t o → good_send s ≡ true
 unfolding good_send
@@ -173,17 +172,6 @@ pub agree_ways : (c : Bool) (out : List ℕ) {o o' : Outcome} {s s' : Step} → 
 agree_ways true out f g = f refl
 agree_ways false out f g = g refl
 
--- a choice whose test is known
-pub goes_first : (c : Bool) (out : List ℕ) (o o' : Outcome) {s : Step} → c ≡ true → Agrees o out s
-    → Agrees (pick c o o') out s
-goes_first true out o o' e a = a
-goes_first false out o o' e a = absurd (apart (sym e))
-
-pub goes_second : (c : Bool) (out : List ℕ) (o o' : Outcome) {s : Step} → c ≡ false → Agrees o' out s
-    → Agrees (pick c o o') out s
-goes_second true out o o' e a = absurd (apart e)
-goes_second false out o o' e a = a
-
 -- an event raised beside an answer arrives in the inbox, and the answer stays
 pub notes : (e : Event) (i : ℕ) (o : Outcome) (out : List ℕ) (a : Said) (b : Box) → SoundEvent e
     → Agrees o out (steps a b)
@@ -202,7 +190,7 @@ pub notes_if : (c c' : Bool) → c ≡ c' → (e : Event) (i : ℕ) (o : Outcome
     → SoundEvent e
     → Agrees o out (steps a b)
     → Agrees (pick c (noted e o) o) out
-    (steps a (box b.shared (Model.noted b.shared i (pick c' (some e) none) b.inbox) b.outbox))
+    (steps a (box b.shared (Model.noted b.shared i (pick c' (Some e) None) b.inbox) b.outbox))
 notes_if true c' same e i o out a b f h = rw (← same) (notes e i o out a b f h)
 notes_if false c' same e i o out a b f h = rw (← same) h
 

@@ -3,9 +3,9 @@ use Prim.Native.Nat.{ℕ, ◌+◌}
 use mathlib.Core.Path.{◌≡◌, refl, sym, ap, subst, ◌∙◌}
 use mathlib.Core.Bool.{Bool, true, false}
 use mathlib.Core.List.{List, [], ◌∷◌, ◌++◌, map, map-append, append-nil}
-use mathlib.Core.Option.{Option, none, some}
 use lib.ListN.{length}
 use lib.Dec.{ltb, eqb}
+use Rattle.std.specs.Prelude.{Option, Some, None}
 use Rattle.common.specs.All.{All}
 use Rattle.common.specs.Choice.{pick}
 use Rattle.common.proofs.Choices.{pick_is}
@@ -77,8 +77,8 @@ arrival_read s i e b =
     (λ y. refl))
 
 noted_read : (s : Shared) (i : ℕ) (e : Option Event) (b : Inbox) → (noted s i e b).read ≡ b.read
-noted_read s i none b = refl
-noted_read s i (some e) b = arrival_read s i e b
+noted_read s i None b = refl
+noted_read s i (Some e) b = arrival_read s i e b
 
 -- no call on the device reads
 does_read : (i : ℕ) (x : DeviceCall) (b : Box) → (does i x b).after.inbox.read ≡ b.inbox.read

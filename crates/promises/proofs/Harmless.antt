@@ -38,20 +38,20 @@ use Rattle.message_text.specs.Printing.{message_room, message_refusal, message_r
 use Rattle.message_text.specs.Reading.{used_of}
 use Rattle.message_text.proofs.Cases.{read_is}
 use Rattle.event_text.specs.Lines.{event_room, event_line, event_record_refusal}
-use Rattle.device.specs.State.{good, fresh, no_device, with_shared, with_receive}
+use Rattle.device.specs.State.{good, fresh, no_device, with_receive}
 use Rattle.sites.specs.Sites.{good_site}
 use Rattle.sites.specs.declared.Site.{Site}
 use Rattle.settings.specs.Ranges.{good_shared, format_of}
 use Rattle.settings.specs.Binary.{binary_refusal}
 use Rattle.device.specs.Outcomes.{Lent, Outcome, ends, refuses}
 use Rattle.recorder.specs.Outcomes.{queue_ready, noted, with_queue}
-use Rattle.common.specs.Refusals.{is_refusal}
+use Rattle.common.specs.Refusals.{is_refusal, refusal_number}
 use Rattle.device.specs.Opening.{opened}
 use Rattle.recorder.specs.Changes.{changed, site_set, filter_set, event_mask_set}
 use Rattle.recorder.specs.Receiving.{raised, record_read, text_read, look_said, through}
 use Rattle.recorder.specs.Receiving as Received
 use Rattle.recorder.specs.Sending.{lifted, sent, text_sent}
-use Rattle.recorder.specs.Register.{carried_over, carrying, taken, finished, aborted}
+use Rattle.recorder.specs.Register.{carrying, taken, finished, aborted}
 use Rattle.recorder.specs.Printing.{line_printed, message_record_printed, event_record_printed, message_printed}
 use Rattle.device.specs.declared.Device.{Device}
 use Rattle.settings.specs.declared.Shared.{Shared}
@@ -63,12 +63,10 @@ use Rattle.model.specs.Outbox.{send, send_text, take, done, abort}
 use Rattle.model.specs.Box.{raise, set_mode, set_format, set_site, print_message_record, print_event_record, print_message}
 use Rattle.model.specs.Box.{Call, on_device, on_receive, on_send, on_align}
 use Rattle.model.specs.Listed.{listed_device, listed_receive, listed_send, listed_print, listed, beside_send, beside}
+use Rattle.model.proofs.Choices.{either}
 use Rattle.model.proofs.Numbers.{header_number, binary_number, Other, room_align, each, each_is}
+use Rattle.model.proofs.Numbers.{text_numbers as ended_numbers}
 use Rattle.promises.specs.Calls.{receive_outcome, outcome, Harmless, CallHarmless}
-
--- a choice has what both its arms have
-both : {A : Type 0} (P : A → Type 0) (c : Bool) (x y : A) → P x → P y → P (pick c x y)
-both P c x y p q = pick_is P c (λ e. p) (λ e. q)
 
 module _ (ns : List ℕ) (d : Device) (l : Lent) where
   abbrev H : Outcome → Type 0
@@ -97,15 +95,15 @@ module _ (ns : List ℕ) (d : Device) (l : Lent) where
   }
 
   -- success answers 0, whatever it leaves
-  succeeds : (v : ℕ) (b : List ℕ) (e : Device) (m : Lent) → among 0 ns ≡ true → H (ends 0 v b e m)
+  succeeds : {v : ℕ} {b : List ℕ} {e : Device} {m : Lent} → among 0 ns ≡ true → H (ends 0 v b e m)
   unfolding is_refusal
-  succeeds v b e m h = no_refusal (ends 0 v b e m) h refl
+  succeeds h = no_refusal _ h refl
 
   -- and so it does with an event raised beside it
   succeeds_noted : (e : Event) (v : ℕ) (bs : List ℕ) (f : Device) (m : Lent) → among 0 ns ≡ true
       → H (noted e (ends 0 v bs f m))
   unfolding noted
-  succeeds_noted e v bs f m h = succeeds v bs _ _ h
+  succeeds_noted e v bs f m h = succeeds h
 
 module _ (ns : List ℕ) (d : Device) (l : Lent) where
   -- a number that is 0 succeeds, any other is refused
@@ -129,9 +127,9 @@ unfolding Queue.raised meets unfiltered queued is_refusal
 raised_met h r code tick m t =
     let e = event_of h.site code tick m in
     pick_is (Met r t) (eqb (raise_refusal h r (length t) code m) 0)
-    (λ z. both (Met r t) (filtered h.mode h.align r.filter e) _ _ (kept 101 refl)
-    (both (Met r t) (mask_lets r.events (code_of e.kind)) _ _
-    (both (Met r t) (ltb r.ring.count r.ring.capacity) _ _
+    (λ z. either (Met r t) (filtered h.mode h.align r.filter e) (kept 101 refl)
+    (either (Met r t) (mask_lets r.events (code_of e.kind))
+    (either (Met r t) (ltb r.ring.count r.ring.capacity)
     (record { number_in = refl; receive_kept = λ x. absurd (apart (sym x)); table_kept = λ x. absurd (apart (sym x)) })
     (record { number_in = refl; receive_kept = λ x. absurd (apart (sym x)); table_kept = λ x. absurd (apart (sym x)) }))
     (kept 102 refl)))
@@ -149,7 +147,7 @@ module _ (d : Device) (l : Lent) where
   unfolding raised
   raise_fine code tick m =
       let g = raised_met d.shared d.receive code tick m l.queue in
-      both (H raise_numbers d l) (good_send d.send) _ _
+      either (H raise_numbers d l) (good_send d.send)
       (record {
         in_list = g.number_in;
         device_kept = λ x. ap (λ (r : Receive). with_receive d r) (g.receive_kept x);
@@ -171,7 +169,7 @@ module _ (d : Device) (l : Lent) where
       → H ns d l (Received.lifted o d l)
       → H ns d l (Received.on_receiving (Queue.settled n [] d.receive o) d l)
   receive_fine ns n o two h p =
-      both (H ns d l) (good_send d.send) _ _ (by_received ns n [] o h p (λ e. refused ns d l n e))
+      either (H ns d l) (good_send d.send) (by_received ns n [] o h p (λ e. refused ns d l n e))
       (refused ns d l 2 two)
 
   -- the oldest event's number
@@ -179,8 +177,8 @@ module _ (d : Device) (l : Lent) where
       → Other ns (oldest_refusal d.receive l.queue)
   unfolding oldest_refusal
   oldest_number ns four fourteen =
-      both (Other ns) (eqb d.receive.ring.count 0) 4 _ (λ e. four)
-      (both (Other ns) (is_event (slot_at d.receive l.queue 0)) 0 14 (λ e. absurd (apart e)) (λ e. fourteen))
+      either (Other ns) (eqb d.receive.ring.count 0) (λ e. four)
+      (either (Other ns) (is_event (slot_at d.receive l.queue 0)) (λ e. absurd (apart e)) (λ e. fourteen))
 
   text_fine : H (listed_receive read_text) d l (text_read d l)
   unfolding text_read Queue.text_read text_refusal
@@ -190,38 +188,37 @@ module _ (d : Device) (l : Lent) where
       let own = oldest_refusal d.receive l.queue in
       receive_fine ns (text_refusal d.shared d.receive l.queue (length l.out))
       (Queue.prints_oldest d.receive line) refl
-      (both (Other ns) (ready d.shared d.receive (length l.queue))
-      (pick (ltb (length l.out) event_room) 3 own) 2
-      (both (Other ns) (ltb (length l.out) event_room) 3 own (λ e. refl) (oldest_number ns refl refl)) (λ e. refl))
-      (succeeds ns d l _ _ _ _ refl)
+      (either (Other ns) (ready d.shared d.receive (length l.queue))
+      (either (Other ns) (ltb (length l.out) event_room) (λ e. refl) (oldest_number ns refl refl)) (λ e. refl))
+      (succeeds ns d l refl)
 
   record_fine : H (listed_receive read_record) d l (record_read d l)
   unfolding record_read Queue.record_read record_refusal
   record_fine =
       let ns : List ℕ = 2 ∷ 4 ∷ 14 ∷ 0 ∷ [] in
-      both (H ns d l) (good_send d.send) _ _
+      either (H ns d l) (good_send d.send)
       (by_received ns (record_refusal d.shared d.receive l.queue) (replicate event_size 0)
       (Queue.ends 0 0 (slot_at d.receive l.queue 0) [] (after_read d.receive))
-      (both (Other ns) (ready d.shared d.receive (length l.queue)) (oldest_refusal d.receive l.queue) 2
+      (either (Other ns) (ready d.shared d.receive (length l.queue))
       (oldest_number ns refl refl) (λ e. refl))
-      (succeeds ns d l _ _ _ _ refl)
+      (succeeds ns d l refl)
       (λ e. refused_bytes ns d l _ event_size e)) (refused_bytes ns d l 2 event_size refl)
 
   changed_fine : (s : Shared) (tick : ℕ) → H (2 ∷ 1 ∷ 0 ∷ []) d l (changed s tick d l)
   unfolding changed
   changed_fine s tick =
       let ns : List ℕ = 2 ∷ 1 ∷ 0 ∷ [] in
-      both (H ns d l) (queue_ready d l) _ _
-      (both (H ns d l) (good_shared s) _ _
-      (succeeds_noted ns d l (event_of s.site 5 tick no_message) 0 [] (with_shared d s) l refl) (refused ns d l 1 refl))
+      either (H ns d l) (queue_ready d l)
+      (either (H ns d l) (good_shared s)
+      (succeeds_noted ns d l _ _ _ _ _ refl) (refused ns d l 1 refl))
       (refused ns d l 2 refl)
 
   site_fine : (site : Site) → H (2 ∷ 1 ∷ 0 ∷ []) d l (site_set site d l)
   unfolding site_set
   site_fine site =
       let ns : List ℕ = 2 ∷ 1 ∷ 0 ∷ [] in
-      both (H ns d l) (good d) _ _
-      (both (H ns d l) (good_site site) _ _ (succeeds ns d l 0 [] _ l refl) (refused ns d l 1 refl))
+      either (H ns d l) (good d)
+      (either (H ns d l) (good_site site) (succeeds ns d l refl) (refused ns d l 1 refl))
       (refused ns d l 2 refl)
 
   filter_fine : (code mask : ℕ) → H (listed_receive (set_filter code mask)) d l (filter_set code mask d l)
@@ -230,8 +227,8 @@ module _ (d : Device) (l : Lent) where
       let ns : List ℕ = 2 ∷ 0 ∷ [] in
       receive_fine ns (filter_refusal d.shared d.receive)
       (Queue.ends 0 0 [] [] (with_filter d.receive code mask)) refl
-      (both (Other ns) (Judged.possible d.shared d.receive) 0 2 (λ e. refl) (λ e. refl))
-      (succeeds ns d l _ _ _ _ refl)
+      (either (Other ns) (Judged.possible d.shared d.receive) (λ e. refl) (λ e. refl))
+      (succeeds ns d l refl)
 
   mask_fine : (events : ℕ) → H (listed_receive (set_event_mask events)) d l (event_mask_set events d l)
   unfolding event_mask_set Queue.event_mask_set mask_refusal
@@ -239,9 +236,9 @@ module _ (d : Device) (l : Lent) where
       let ns : List ℕ = 2 ∷ 1 ∷ 0 ∷ [] in
       receive_fine ns (mask_refusal d.shared d.receive events)
       (Queue.ends 0 0 [] [] (with_events d.receive events)) refl
-      (both (Other ns) (Judged.possible d.shared d.receive) (pick (is_mask events) 0 1) 2
-      (both (Other ns) (is_mask events) 0 1 (λ e. refl) (λ e. refl)) (λ e. refl))
-      (succeeds ns d l _ _ _ _ refl)
+      (either (Other ns) (Judged.possible d.shared d.receive)
+      (either (Other ns) (is_mask events) (λ e. refl) (λ e. refl)) (λ e. refl))
+      (succeeds ns d l refl)
 
   through_fine : (format : ℕ) → H (listed_receive (identifiers_through format)) d l (through format d l)
   unfolding through Queue.through through_refusal
@@ -249,9 +246,9 @@ module _ (d : Device) (l : Lent) where
       let ns : List ℕ = 2 ∷ 13 ∷ 0 ∷ [] in
       let count = let_through d.shared.align d.receive.filter format in
       receive_fine ns (through_refusal d.shared d.receive format) (Queue.ends 0 count [] [] d.receive) refl
-      (both (Other ns) (Judged.possible d.shared d.receive) (pick (is_format format) 0 13) 2
-      (both (Other ns) (is_format format) 0 13 (λ e. refl) (λ e. refl)) (λ e. refl))
-      (succeeds ns d l _ _ _ _ refl)
+      (either (Other ns) (Judged.possible d.shared d.receive)
+      (either (Other ns) (is_format format) (λ e. refl) (λ e. refl)) (λ e. refl))
+      (succeeds ns d l refl)
 
   -- what holds of a call's effect and of its refusal holds of the call
   by_settled : (P : Wire.Outcome → Type 0) (n v : ℕ) (b : List ℕ) (o : Wire.Outcome) → P o
@@ -263,8 +260,8 @@ module _ (d : Device) (l : Lent) where
       → P (put_refusal d.shared d.send (length l.send) own)
   unfolding put_refusal
   put_number P own two o five zero =
-      both P (Refusals.ready d.shared d.send (length l.send)) _ 2
-      (both P (eqb own 0) _ own (both P (ltb d.send.ring.count d.send.ring.capacity) 0 5 zero five) o) two
+      either P (Refusals.ready d.shared d.send (length l.send))
+      (either P (eqb own 0) (either P (ltb d.send.ring.count d.send.ring.capacity) zero five) o) two
 
   send_fine : (m : Message) → H (listed_send (send m)) d l (sent m d l)
   unfolding sent Wire.sent
@@ -275,52 +272,52 @@ module _ (d : Device) (l : Lent) where
       put_number (Other ns) own (λ e. refl) (binary_number (Other ns) d.shared m (λ e. refl) (λ e. refl)
       (λ e. refl) (λ e. refl) (λ e. refl))
       (λ e. refl) (λ e. refl) in
-      both (H ns d l) (good_receive d.receive) _ _
+      either (H ns d l) (good_receive d.receive)
       (by_settled (λ w. H ns d l (lifted w d l)) (put_refusal d.shared d.send (length l.send) own) 0 [] _
-      (succeeds ns d l _ _ _ _ refl) (λ e. refused ns d l _ (listed e)))
+      (succeeds ns d l refl) (λ e. refused ns d l _ (listed e)))
       (refused ns d l 2 refl)
 
   take_number : Other (2 ∷ 5 ∷ 4 ∷ 14 ∷ 0 ∷ []) (take_refusal d.shared d.send l.send)
   unfolding take_refusal wait_refusal
   take_number =
       let N : ℕ → Type 0 = Other (2 ∷ 5 ∷ 4 ∷ 14 ∷ 0 ∷ []) in
-      both N (eqb (wait_refusal d.shared d.send (length l.send)) 0) _ _
-      (both N (is_message (oldest d.send l.send)) 0 14 (λ e. refl) (λ e. refl))
-      (both N (Refusals.ready d.shared d.send (length l.send)) _ 2
-      (both N d.send.held 5 _ (λ e. refl) (both N (eqb d.send.ring.count 0) 4 0 (λ e. refl) (λ e. refl)))
+      either N (eqb (wait_refusal d.shared d.send (length l.send)) 0)
+      (either N (is_message (oldest d.send l.send)) (λ e. refl) (λ e. refl))
+      (either N (Refusals.ready d.shared d.send (length l.send))
+      (either N d.send.held (λ e. refl) (either N (eqb d.send.ring.count 0) (λ e. refl) (λ e. refl)))
       (λ e. refl))
 
   take_fine : (tick : ℕ) → H (listed_send (take tick)) d l (taken tick d l)
-  unfolding taken Wire.taken carried_over
+  unfolding taken Wire.taken
   take_fine tick =
       let ns : List ℕ = 2 ∷ 5 ∷ 4 ∷ 14 ∷ 0 ∷ [] in
-      both (H ns d l) (usable d.receive l.queue) _ _
+      either (H ns d l) (usable d.receive l.queue)
       (by_settled (λ w. H ns d l (carrying w d l)) (take_refusal d.shared d.send l.send) 0 _ _
-      (succeeds ns d l _ _ _ _ refl)
+      (succeeds ns d l refl)
       (λ e. refused_bytes ns d l _ message_size (take_number e)))
       (refused_bytes ns d l 2 message_size refl)
 
   done_fine : (tick : ℕ) → H (listed_send (done tick)) d l (finished tick d l)
-  unfolding finished Wire.finished done_refusal carried_over
+  unfolding finished Wire.finished done_refusal
   done_fine tick =
       let ns : List ℕ = 2 ∷ 4 ∷ 0 ∷ [] in
       let listed : Other ns (done_refusal d.shared d.send) =
-      both (Other ns) (possible d.shared d.send) _ 2
-      (both (Other ns) d.send.held 0 4 (λ e. refl) (λ e. refl)) (λ e. refl) in
-      both (H ns d l) (usable d.receive l.queue) _ _
+      either (Other ns) (possible d.shared d.send)
+      (either (Other ns) d.send.held (λ e. refl) (λ e. refl)) (λ e. refl) in
+      either (H ns d l) (usable d.receive l.queue)
       (by_settled (λ w. H ns d l (carrying w d l)) (done_refusal d.shared d.send) 0 [] _
-      (succeeds ns d l _ _ _ _ refl) (λ e. refused ns d l _ (listed e)))
+      (succeeds ns d l refl) (λ e. refused ns d l _ (listed e)))
       (refused ns d l 2 refl)
 
   abort_fine : (tick : ℕ) → H (listed_send (abort tick)) d l (aborted tick d l)
-  unfolding aborted Wire.aborted abort_refusal carried_over
+  unfolding aborted Wire.aborted abort_refusal
   abort_fine tick =
       let ns : List ℕ = 2 ∷ 0 ∷ [] in
       let listed : Other ns (abort_refusal d.shared d.send) =
-      both (Other ns) (possible d.shared d.send) 0 2 (λ e. refl) (λ e. refl) in
-      both (H ns d l) (usable d.receive l.queue) _ _
+      either (Other ns) (possible d.shared d.send) (λ e. refl) (λ e. refl) in
+      either (H ns d l) (usable d.receive l.queue)
       (by_settled (λ w. H ns d l (carrying w d l)) (abort_refusal d.shared d.send) 0 [] _
-      (succeeds ns d l _ _ _ _ refl) (λ e. refused ns d l _ (listed e)))
+      (succeeds ns d l refl) (λ e. refused ns d l _ (listed e)))
       (refused ns d l 2 refl)
 
   -- a line is printed, or its first refusal answered; the Align of a good device is in range
@@ -328,7 +325,7 @@ module _ (d : Device) (l : Lent) where
       → (d.shared.align ≤ 3 → Other ns n) → H ns d l (line_printed n line d l)
   unfolding line_printed
   print_fine ns n line z t h =
-      pick_is (H ns d l) (good d) (λ g. by_number ns d l n _ (h (align_in d g)) (λ e. succeeds ns d l _ _ _ _ z))
+      pick_is (H ns d l) (good d) (λ g. by_number ns d l n _ (h (align_in d g)) (λ e. succeeds ns d l z))
       (λ g. refused ns d l 2 t)
 
   message_record_fine : (s : List ℕ) → H (listed_print (print_message_record s)) d l (message_record_printed s d l)
@@ -337,7 +334,7 @@ module _ (d : Device) (l : Lent) where
       let ns : List ℕ = 2 ∷ 3 ∷ 14 ∷ 0 ∷ [] in
       print_fine ns _ _ refl refl
       (room_align ns d.shared.align (length l.out) message_room (pick (is_message s) 0 14) refl
-      (both (Other ns) (is_message s) 0 14 (λ e. refl) (λ e. refl)))
+      (either (Other ns) (is_message s) (λ e. refl) (λ e. refl)))
 
   event_record_fine : (s : List ℕ) → H (listed_print (print_event_record s)) d l (event_record_printed s d l)
   unfolding event_record_refusal
@@ -345,7 +342,7 @@ module _ (d : Device) (l : Lent) where
       let ns : List ℕ = 2 ∷ 3 ∷ 14 ∷ 0 ∷ [] in
       print_fine ns _ _ refl refl
       (room_align ns d.shared.align (length l.out) event_room (pick (is_event s) 0 14) refl
-      (both (Other ns) (is_event s) 0 14 (λ e. refl) (λ e. refl)))
+      (either (Other ns) (is_event s) (λ e. refl) (λ e. refl)))
 
   message_fine : (m : Message) → H (listed_print (print_message m)) d l (message_printed m d l)
   unfolding message_refusal
@@ -365,7 +362,7 @@ module _ (d : Device) (l : Lent) where
       by : (a b c e : Bool) → good_send d.send ≡ a → Judged.possible d.shared d.receive ≡ b
           → queue_fits d.receive (length l.queue) ≡ c → ltb p d.receive.ring.count ≡ e
           → H (2 ∷ 4 ∷ 0 ∷ []) d l (receive_outcome (look p) d l)
-      by true true true true x y z w = rw (x, good_is d x, y, z, w) (succeeds (2 ∷ 4 ∷ 0 ∷ []) d l _ _ _ _ refl)
+      by true true true true x y z w = rw (x, good_is d x, y, z, w) (succeeds (2 ∷ 4 ∷ 0 ∷ []) d l refl)
       by true true true false x y z w = rw (x, good_is d x, y, z, w) (refused (2 ∷ 4 ∷ 0 ∷ []) d l 4 refl)
       by true true false e x y z w = rw (x, good_is d x, y, z) (refused (2 ∷ 4 ∷ 0 ∷ []) d l 2 refl)
       by true false c e x y z w = rw (x, good_is d x, y) (refused (2 ∷ 4 ∷ 0 ∷ []) d l 2 refl)
@@ -412,30 +409,27 @@ module _ (d : Device) (l : Lent) where
         (rw five (refused_text 5 0 refl refl)) (taken_text used _ _)
 
     -- a refusal of a text with an end is none of 2, 5 and 6
-    other : (n : ℕ) → among n (7 ∷ 8 ∷ 9 ∷ 10 ∷ 11 ∷ 12 ∷ []) ≡ true → T (ends n (used_of text) [] d l)
+    other : (n : ℕ) → among n ended_numbers ≡ true → T (ends n (used_of text) [] d l)
     other n h =
-        let ns : List ℕ = 7 ∷ 8 ∷ 9 ∷ 10 ∷ 11 ∷ 12 ∷ [] in
-        let out : not (among n (2 ∷ 5 ∷ 6 ∷ [])) ≡ true = each_is (λ k. not (among k (2 ∷ 5 ∷ 6 ∷ []))) n ns refl h in
-        let none_of : among n (2 ∷ 5 ∷ 6 ∷ []) ≡ false = denied refl out in
-        refused_text n (used_of text) (each_is (λ k. among k text_numbers) n ns refl h) (rw none_of)
+        let none_of = denied refl (each_is (λ k. not (among k (2 ∷ 5 ∷ 6 ∷ []))) n ended_numbers refl h) in
+        refused_text n (used_of text) (each_is (λ k. among k text_numbers) n ended_numbers refl h) (rw none_of)
 
-    own : (n : ℕ) (m : Message) → among n (7 ∷ 8 ∷ 9 ∷ 10 ∷ 11 ∷ 12 ∷ []) ≡ true
+    own : (n : ℕ) (m : Message) → among n ended_numbers ≡ true
         → Told n (used_of text) m (put_refusal d.shared d.send (length l.send) n)
     own n m h =
-        let not_in : (k : ℕ) → ◌≡◌ {A = Bool} (each (λ i. not (eqb k i)) (7 ∷ 8 ∷ 9 ∷ 10 ∷ 11 ∷ 12 ∷ [])) true
-        → eqb k n ≡ false =
-        λ k e. denied refl (each_is (λ i. not (eqb k i)) n (7 ∷ 8 ∷ 9 ∷ 10 ∷ 11 ∷ 12 ∷ []) e h) in
-        let z : eqb n 0 ≡ false = denied refl (each_is (λ i. not (eqb i 0)) n (7 ∷ 8 ∷ 9 ∷ 10 ∷ 11 ∷ 12 ∷ []) refl h) in
+        let not_in : (k : ℕ) → ◌≡◌ {A = Bool} (each (λ i. not (eqb k i)) ended_numbers) true → eqb k n ≡ false =
+        λ k e. denied refl (each_is (λ i. not (eqb k i)) n ended_numbers e h) in
+        let z : eqb n 0 ≡ false = denied refl (each_is (λ i. not (eqb i 0)) n ended_numbers refl h) in
         read_fine n (used_of text) m (not_in 2 refl) (not_in 5 refl) (rw (z, eq-eqb n n refl) (other n h))
 
     send_text_fine : T (text_sent text d l)
     unfolding text_sent Wire.text_sent
     send_text_fine =
-        both T (good_receive d.receive) _ _
-        (read_is (λ s. T (lifted (Wire.read_sent d.shared d.send (Wire.read_as s) l.send) d l))
+        either T (good_receive d.receive)
+        (read_is (λ s. T (lifted (Wire.read_sent d.shared d.send s l.send) d l))
         d.shared.align
         (format_of d.shared d.shared.format) text (read_fine 6 0 no_message refl refl (refused_text 6 0 refl refl))
-        (λ n h. own n no_message h) (λ f. read_fine 0 _ _ refl refl (taken_text _ _ _)))
+        (λ why h. own (refusal_number why) no_message h) (λ f. read_fine 0 _ _ refl refl (taken_text _ _ _)))
         (refused_text 2 0 refl refl)
 
 -- ---- demand 1
@@ -468,8 +462,8 @@ pub open_harmless : (s : Settings) (l : Lent) → Harmless (1 ∷ 2 ∷ 0 ∷ []
 unfolding opened
 open_harmless s l =
     let ns : List ℕ = 1 ∷ 2 ∷ 0 ∷ [] in
-    both (H ns no_device l) (good (fresh s)) _ _
-    (both (H ns no_device l) (queue_fits (fresh s).receive (length l.queue)
-    && send_fits (fresh s).send (length l.send)) _ _
-    (succeeds ns no_device l 0 [] (fresh s) l refl) (refused ns no_device l 2 refl))
+    either (H ns no_device l) (good (fresh s))
+    (either (H ns no_device l) (queue_fits (fresh s).receive (length l.queue)
+    && send_fits (fresh s).send (length l.send))
+    (succeeds ns no_device l refl) (refused ns no_device l 2 refl))
     (refused ns no_device l 1 refl)

@@ -15,6 +15,7 @@ use Rattle.common.specs.Choice.{pick}
 use Rattle.common.specs.Rings.{slot_of, with_one_more, without_oldest, purged}
 use Rattle.common.specs.Slots.{slot, store, ring}
 use Rattle.common.specs.declared.Ring.{Ring}
+use Rattle.common.proofs.All.{all_append}
 use Rattle.common.proofs.RingFacts.{RingFacts, good_ring_lem}
 use Rattle.common.proofs.Slots.{ring_length}
 use Rattle.model.specs.Said.{says, hands}
@@ -24,8 +25,7 @@ use Rattle.promises.proofs.Rings.{facts_good, facts_more, facts_rest, held_more,
 
 -- what holds of every entry and of one more
 pub all_snoc : {A : Type 0} (P : A → Type 0) (xs : List A) (x : A) → All P xs → P x → All P (xs ++ x ∷ [])
-all_snoc P [] x h e = (e, tt)
-all_snoc P (y ∷ xs) x h e = (h.0, all_snoc P xs x h.1 e)
+all_snoc P xs x h e = all_append P xs (x ∷ []) h (e, tt)
 
 -- the first of some slots
 abbrev foremost : List (List ℕ) → List ℕ

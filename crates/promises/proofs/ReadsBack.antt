@@ -1,11 +1,12 @@
 -- Demand 2: a stored message of its channel's own format, printed and then sent as text, is stored as the same bytes.
 use Prim.Native.Nat.{ℕ, ◌≤◌, ◌<◌, ◌*◌}
-use mathlib.Core.Path.{◌≡◌, refl, ◌∙◌}
+use mathlib.Core.Path.{◌≡◌, refl}
 use mathlib.Core.Bool.{true, ◌&&◌, ◌||◌, not}
 use mathlib.Core.List.{List, [], ◌∷◌, ◌++◌, map}
 use lib.ListN.{length, take, drop}
 use lib.Seq.{take_at}
 use borrow.Author.Tests.{le-ltb, le-leb, leb-true, lt-ltb}
+use Rattle.std.specs.Prelude.{Some, Ok}
 use Rattle.common.specs.All.{All}
 use Rattle.common.specs.Numbers.{Bytes}
 use Rattle.common.specs.Rings.{good_ring, slot_of, with_one_more}
@@ -15,11 +16,10 @@ use Rattle.common.proofs.Numbers.{bytes_take, bytes_drop}
 use Rattle.common.proofs.RingFacts.{RingFacts, good_ring_lem}
 use Rattle.messages.specs.Records.{message_size, good_message, message_bytes, message_in, is_message, judge_message}
 use Rattle.messages.specs.declared.Message.{Message}
-use Rattle.messages.proofs.RoundTrip.{good_refusal, message_bytes_length, good_is, message_as, judged_good}
+use Rattle.messages.proofs.RoundTrip.{good_refusal, message_bytes_length, message_as, judged_good}
 use Rattle.messages.proofs.RoundTrip.{judged_length, bytes_of_message}
 use Rattle.message_text.specs.Reading.{read_message}
 use Rattle.message_text.specs.Printing.{message_room, message_line, message_refusal, message_record_refusal}
-use Rattle.message_text.specs.declared.Answer.TheVariants.{Taken}
 use Rattle.message_text.proofs.RoundTrip.{round_trip}
 use Rattle.settings.specs.Ranges.{format_of}
 use Rattle.settings.specs.TxMode.{good_tx}
@@ -90,7 +90,7 @@ module _ (m : Message) (d e : Device) (l n : Lent) (d-good : good d ≡ true) (r
       (and_left (a && b) (not e.send.held || good_message e.send.message) e_send))
 
   said : read_message e.shared.align (format_of e.shared e.shared.format) line
-      ≡ record { answer = Taken m.header (length line); bytes = m.bytes }
+      ≡ record { said = Ok m; used = length line }
   said = rw (same, ← own) (round_trip d.shared.align m align_le sound.whole sound.eight sound.bytes)
 
   -- the line is stored as the message that it was printed from
@@ -140,14 +140,14 @@ pub sound_in : (b : List ℕ) → is_message b ≡ true → Bytes b
     → SoundMessage (message_in b) × (message_bytes (message_in b) ≡ b)
 unfolding message_in
 sound_in b w h =
-    let e : (judge_message b).message ≡ message_in b = message_as b w in
-    let g : (judge_message b).good ≡ true = good_is b ∙ w in (
+    let m = message_in b in
+    let e : judge_message b ≡ Some m = message_as b w in (
       record {
-        eight = rw e at (judged_length b);
+        eight = judged_length b m e;
         bytes = bytes_drop 8 (take 16 b) (bytes_take 16 b h);
-        whole = rw e at (judged_good b g);
+        whole = judged_good b m e;
       },
-      rw e at (bytes_of_message b h g),
+      bytes_of_message b m h e,
     )
 
 all_map : {A : Type 0} (P Q : A → Type 0) → ((a : A) → P a → Q a) → (xs : List A) → All P xs → All Q xs

@@ -1,15 +1,16 @@
 -- The calls on a send channel answer and leave what the model says.
 use Prim.Native.Nat.{ℕ}
 use mathlib.Core.Path.{◌≡◌, refl, sym, ap, ◌∙◌}
-use mathlib.Core.Bool.{true, false, not}
+use mathlib.Core.Bool.{true, false}
 use mathlib.Core.List.{List, [], ◌∷◌, ◌++◌, map}
-use mathlib.Core.Option.{Option, none, some}
 use native.Mathlib.Omega.{arith}
 use lib.ListN.{length, replicate}
 use lib.Dec.{ltb, eqb}
 use borrow.Author.Tests.{eq-eqb, ne_eqb, eqb-true}
+use Rattle.std.specs.Prelude.{Option, Some, None}
 use Rattle.common.specs.Choice.{pick}
-use Rattle.common.proofs.Bools.{denied}
+use Rattle.common.specs.Refusals.{refusal_number}
+use Rattle.common.proofs.Refused.{refused}
 use Rattle.common.proofs.Choices.{by_test}
 use Rattle.messages.specs.Records.{message_size, message_bytes, no_message}
 use Rattle.events.specs.Raised.{event_of}
@@ -33,7 +34,7 @@ use Rattle.device.specs.State.{with_send}
 use Rattle.device.specs.Outcomes.{Lent, lends, ends}
 use Rattle.recorder.specs.Outcomes as Ended
 use Rattle.recorder.specs.Sending.{lifted, sent, text_sent}
-use Rattle.recorder.specs.Register.{carried_over, carrying, taken, finished, aborted}
+use Rattle.recorder.specs.Register.{carrying, taken, finished, aborted}
 use Rattle.device.specs.declared.Device.{Device}
 use Rattle.recorder.proofs.SendWays.{carries_as}
 use Rattle.model.specs.Said.{says, says_zeros, counts, hands}
@@ -41,7 +42,6 @@ use Rattle.model.specs.Inbox.{Inbox}
 use Rattle.model.specs.Outbox.{took, purged, Outbox, holding, SendCall, send, send_text, take, done, abort, Posted}
 use Rattle.model.specs.Outbox.{posted, put_text, takes, takes_into, finishes, aborts, posts}
 use Rattle.model.specs.Outbox as Model
-use Rattle.model.proofs.Numbers.{text_numbers, each_is}
 use Rattle.model.specs.Box.{box, Step, steps, noted, on_send, step}
 use Rattle.promises.specs.Typed.{Framed, Word, TypedSend}
 use Rattle.promises.specs.Calls.{outcome}
@@ -49,7 +49,7 @@ use Rattle.promises.specs.Stands.{Holds, SoundMessage, Register, Sends, Stands}
 use Rattle.promises.proofs.Holding.{all_snoc, holds_count, holds_more, holds_rest, holds_none}
 use Rattle.promises.proofs.Sound.{message_is, message_event_sound, sent_sound}
 use Rattle.promises.proofs.Agreeing.{receive_usable, receive_possible, send_possible, Agrees, agrees_as}
-use Rattle.promises.proofs.Agreeing.{goes_first, goes_second, notes, notes_if, told}
+use Rattle.promises.proofs.Agreeing.{notes, notes_if, told}
 
 -- a step of the box that a send call makes
 abbrev Mailed : Device → ℕ → Inbox → Posted → Step
@@ -145,14 +145,15 @@ module _ (d : Device) (q t out : List ℕ) (i : ℕ) (b : Inbox) (o : Outbox) (h
       let f = format_of d.shared d.shared.format in
       rw receive
       (read_is (λ a. read_message align f text ≡ a
-      → Agrees (lifted (Wire.read_sent d.shared d.send (Wire.read_as a) t) d l) out (Mailed d i b (put_text a o)))
+      → Agrees (lifted (Wire.read_sent d.shared d.send a t) d l) out (Mailed d i b (put_text a o)))
       align f text
       (λ e. rw (put_not 6 (beside 6 0) no_message 0 refl) (told (says 6) d q t out, h))
-      (λ n r e.
-      let z = denied refl (each_is (λ k. not (eqb k 0)) n text_numbers refl r) in
+      (λ why r e.
+      let n = refusal_number why in
+      let z = refused why n refl in
       rw (put_not n (beside n (used_of text)) no_message (used_of text) z, eq-eqb n n refl) (told _ _ _ _ _, h))
       (λ facts e.
-      let g = taken_good align f text e in
+      let g = taken_good align f text (ap (λ a. a.said) e) in
       put_is (beside 0 (used_of text)) _ _ refl (record { eight = g.1; bytes = g.2; whole = g.0 }))
       refl)
     where
@@ -189,7 +190,7 @@ module _ (d : Device) (q t out : List ℕ) (i : ℕ) (b : Inbox) (o : Outbox) (h
         rw (send_ready_lem, z, ne_eqb d.send.ring.count 0 (λ y. omega (arith, count_is, ap length e)), oldest_is)
         (rw ((message_is m first).0, (message_is m first).1))
 
-    after_take_lem : Sends (after_take d.send m) t (holding o rest (some m) o.sent (o.gone ++ took m ∷ []))
+    after_take_lem : Sends (after_take d.send m) t (holding o rest (Some m) o.sent (o.gone ++ took m ∷ []))
     after_take_lem = record {
       possible = h.outbox.possible;
       tx = h.outbox.tx;
@@ -223,7 +224,7 @@ module _ (d : Device) (q t out : List ℕ) (i : ℕ) (b : Inbox) (o : Outbox) (h
 
   -- a take
   take_is : (tick : ℕ) → Word tick → Doing (take tick)
-  unfolding outcome taken carried_over step posts
+  unfolding outcome taken step posts
   take_is tick ty = rw both (by o.register h.outbox.register)
     where
       Result : Posted → Type 0
@@ -234,7 +235,7 @@ module _ (d : Device) (q t out : List ℕ) (i : ℕ) (b : Inbox) (o : Outbox) (h
       waits (m ∷ rest) z e =
           agrees_as
           (ap (λ (w : Wire.Outcome). carrying w d l) (taken_0 m rest e tick z)
-          ∙ carries_as (raises_at_take d.send.tx) 2 tick m refl 0 0 (message_bytes m) (after_take d.send m) t d l)
+          ∙ carries_as (raises_at_take d.send.tx) 2 tick m 0 0 (message_bytes m) (after_take d.send m) t d l)
           (notes_if (raises_at_take d.send.tx) (raises_at_take o.tx) (rw h.outbox.tx)
           (event_of d.shared.site 2 tick m) i _ out (hands (message_bytes m)) _
           (message_event_sound d.shared.site tick m site_good ty (first m rest e) 2 (omega arith))
@@ -242,15 +243,15 @@ module _ (d : Device) (q t out : List ℕ) (i : ℕ) (b : Inbox) (o : Outbox) (h
 
       by : (r : Option Message) → Register d.send.held d.send.message r
           → Result (takes_into r d.shared.site tick o)
-      by none z = waits o.buffer z.0 refl
-      by (some m) r = rw (taken_5 tick r.0) (told (says_zeros message_size 5) d q t out, h)
+      by None z = waits o.buffer z.0 refl
+      by (Some m) r = rw (taken_5 tick r.0) (told (says_zeros message_size 5) d q t out, h)
 
   -- a done
   done_is : (tick : ℕ) → Word tick → Doing (done tick)
-  unfolding outcome finished carried_over step posts
+  unfolding outcome finished step posts
   done_is tick ty = rw both (by o.register h.outbox.register)
     where
-      empty : Sends (after_done d.send) t (holding o o.buffer none o.sent o.gone)
+      empty : Sends (after_done d.send) t (holding o o.buffer None o.sent o.gone)
       empty = record {
         possible = h.outbox.possible;
         tx = h.outbox.tx;
@@ -264,11 +265,11 @@ module _ (d : Device) (q t out : List ℕ) (i : ℕ) (b : Inbox) (o : Outbox) (h
       by : (r : Option Message) → Register d.send.held d.send.message r
           → Agrees (carrying (Wire.finished d.shared d.send tick t) d l) out
           (Mailed d i b (finishes r d.shared.site tick o))
-      by none z = rw (finished_4 tick z.0) (told (says 4) d q t out, h)
-      by (some m) r =
+      by None z = rw (finished_4 tick z.0) (told (says 4) d q t out, h)
+      by (Some m) r =
           agrees_as
           (ap (λ (w : Wire.Outcome). carrying w d l) (finished_0 tick m r.0 r.1)
-          ∙ carries_as (raises_at_done d.send.tx) 2 tick m refl 0 0 [] (after_done d.send) t d l)
+          ∙ carries_as (raises_at_done d.send.tx) 2 tick m 0 0 [] (after_done d.send) t d l)
           (notes_if (raises_at_done d.send.tx) (raises_at_done o.tx) (rw h.outbox.tx)
           (event_of d.shared.site 2 tick m) i _ out (says 0) _
           (message_event_sound d.shared.site tick m site_good ty r.2 2 (omega arith))
@@ -276,17 +277,17 @@ module _ (d : Device) (q t out : List ℕ) (i : ℕ) (b : Inbox) (o : Outbox) (h
 
   -- an abort
   abort_is : (tick : ℕ) → Word tick → Doing (abort tick)
-  unfolding outcome aborted carried_over step posts
+  unfolding outcome aborted step posts
   abort_is tick ty =
       rw both
       (agrees_as
       (ap (λ (w : Wire.Outcome). carrying w d l) (aborted_0 tick)
-      ∙ carries_as d.send.held 3 tick d.send.message refl 0 d.send.ring.count []
+      ∙ carries_as d.send.held 3 tick d.send.message 0 d.send.ring.count []
       (after_abort d.send) t d l)
       (by o.register h.outbox.register))
     where
       after : Outbox
-      after = holding o [] none o.sent (o.gone ++ map purged o.buffer)
+      after = holding o [] None o.sent (o.gone ++ map purged o.buffer)
 
       purge : Agrees (ends 0 d.send.ring.count [] (with_send d (after_abort d.send)) l) out
           (steps (counts (length o.buffer)) (box d.shared b after))
@@ -312,11 +313,10 @@ module _ (d : Device) (q t out : List ℕ) (i : ℕ) (b : Inbox) (o : Outbox) (h
           (ends 0 d.send.ring.count [] (with_send d (after_abort d.send)) l))
           (ends 0 d.send.ring.count [] (with_send d (after_abort d.send)) l))
           out (Mailed d i b (posted (counts (length o.buffer)) after (aborts r d.shared.site tick)))
-      by none z = goes_second d.send.held out _ _ z.0 purge
-      by (some m) r =
-          goes_first d.send.held out _ _ r.0
-          (rw r.1 (notes (event_of d.shared.site 3 tick m) i _ out _ _
-          (message_event_sound d.shared.site tick m site_good ty r.2 3 (omega arith)) purge))
+      by None z = rw z.0 purge
+      by (Some m) r =
+          rw (r.0, r.1) (notes (event_of d.shared.site 3 tick m) i _ out _ _
+          (message_event_sound d.shared.site tick m site_good ty r.2 3 (omega arith)) purge)
 
   -- every call
   pub send_agrees : (x : SendCall) → TypedSend x → Doing x

@@ -6,6 +6,8 @@ use native.Mathlib.Omega.{arith}
 use lib.ListN.{length, take, replicate}
 use lib.Dec.{leb}
 use borrow.Author.Tests.{leb-true, lt-ltb}
+use Rattle.std.specs.Prelude.{is_some}
+use Rattle.std.proofs.lemmas.Option.{same_Some}
 use Rattle.common.specs.Choice.{pick}
 use Rattle.common.specs.Numbers.{Bytes}
 use Rattle.common.proofs.Bools.{apart, and_right}
@@ -37,13 +39,13 @@ pub event_is : (e : Event) → SoundEvent e → (is_event (event_bytes e) ≡ tr
 event_is e s =
     let b = event_back e (record { code = s.code; low = s.low; high = s.high; lost = s.lost; bytes = s.eight })
     s.whole in
-    let t : is_event (event_bytes e) ≡ true = sym (event_good_is (event_bytes e)) ∙ ap (λ j. j.good) b in
-    (t, sym (event_as (event_bytes e) t) ∙ ap (λ j. j.event) b)
+    let t : is_event (event_bytes e) ≡ true = sym (event_good_is (event_bytes e)) ∙ ap is_some b in
+    (t, same_Some (event_in (event_bytes e)) e (sym (event_as (event_bytes e) t) ∙ b))
 
 -- and so a sound message's
 pub message_is : (m : Message) → SoundMessage m → (is_message (message_bytes m) ≡ true) × (message_in (message_bytes m) ≡ m)
 message_is m s = (
-  sym (good_is (message_bytes m)) ∙ ap (λ j. j.good) (message_back m s.eight s.whole),
+  sym (good_is (message_bytes m)) ∙ ap is_some (message_back m s.eight s.whole),
   message_in_back m s.eight (good_refusal m s.whole),
 )
 

@@ -1,6 +1,5 @@
 -- A device with its tables stands for a box of the model; an outcome says what the model says.
-use Rattle.std.specs.Prelude.{ℕ, ◌*◌, ◌≡◌, Bool, true, false, ◌&&◌, List, [], ◌∷◌, ◌++◌, map, length, drop, leb}
-use Rattle.std.proofs.Math.Option.{Option, none, some}
+use Rattle.std.specs.Prelude.{ℕ, ◌*◌, ◌≡◌, Bool, true, false, ◌&&◌, List, [], ◌∷◌, ◌++◌, map, length, drop, leb, Option, Some, None}
 use Rattle.common.specs.All.{All}
 use Rattle.common.specs.Numbers.{Bytes}
 use Rattle.common.specs.Rings.{good_ring}
@@ -70,8 +69,8 @@ pub record Receives (r : Receive) (q : List ℕ) (b : Inbox) : Type 0 where
 
 -- the register: held or not, and what stands in it; zeros where it is empty
 abbrev pub Register : Bool → Message → Option Message → Type 0
-Register held kept none = (held ≡ false) × (kept ≡ no_message)
-Register held kept (some m) = (held ≡ true) × (kept ≡ m) × SoundMessage m
+Register held kept None = (held ≡ false) × (kept ≡ no_message)
+Register held kept (Some m) = (held ≡ true) × (kept ≡ m) × SoundMessage m
 
 -- a send channel s with the message table t stands for the outbox o
 pub record Sends (s : Send) (t : List ℕ) (o : Outbox) : Type 0 where

@@ -1,8 +1,6 @@
-pub mod Meeting
-pub mod Ready
+pub mod Apart
 pub mod ChangeWays
+pub mod Ready
 pub mod ReceiveWays
 pub mod SendWays
-pub mod PrintWays
 pub mod Unique
-pub mod Apart

@@ -1,9 +1,10 @@
 -- Take, done and abort: 2 where the receive side is not usable, else what the outbox answers and leaves, with the
 -- event that it raises carried to the queue (01, "Sending").
-use Rattle.std.specs.Prelude.{ℕ, ◌≡◌, List, replicate, eqb}
+use Rattle.std.specs.Prelude.{ℕ, ◌≡◌, List, replicate, Option, Some, None}
 use Rattle.common.specs.Choice.{pick}
 use Rattle.messages.specs.Records.{message_size}
 use Rattle.events.specs.Raised.{event_of}
+use Rattle.events.specs.declared.Raise.{Raise}
 use Rattle.sites.specs.declared.Site.{Site}
 use Rattle.settings.specs.declared.Shared.{Shared}
 use Rattle.queue.specs.Channel.{usable}
@@ -11,27 +12,24 @@ use Rattle.queue.specs.Recording.{Raising, raises, unfiltered}
 use Rattle.inbox.specs.Calls.{meets}
 use Rattle.queue.specs.declared.Receive.{Receive}
 use Rattle.outbox.specs.Calls as Outbox
-use Rattle.outbox.specs.declared.Raised.{Raised}
-use Rattle.outbox.specs.declared.Emptied.{Emptied}
 use Rattle.device.specs.State.{with_receive, with_send}
-use Rattle.device.specs.Outcomes.{Lent, Outcome, ends, refuses, answer_with}
+use Rattle.device.specs.Outcomes.{Lent, Outcome, ends, refuses}
 use Rattle.recorder.specs.Outcomes.{with_queue, with_table}
 use Rattle.device.specs.declared.Device.{Device}
-use Rattle.device.specs.declared.Answer.{Answer}
 
--- the event that a call on the send channel raises meets filter, mask and queue; code 0 is none
-unfoldable pub carried_over : Raised → Shared → Receive → List ℕ → Raising
-carried_over e s r q =
-    pick (eqb e.code 0) (raises 0 r q) (meets s r (event_of s.site e.code e.tick e.message) q)
+-- the event that a call on the send channel raises, if any, meets filter, mask and queue
+abbrev pub carried_over : Option Raise → Shared → Receive → List ℕ → Raising
+carried_over None s r q = raises 0 r q
+carried_over (Some e) s r q = meets s r (event_of s.site e.code e.tick e.frame) q
 
 -- the same past the filter, which only code 1 meets
-unfoldable pub carried_past : Raised → Site → Receive → List ℕ → Raising
-carried_past e site r q =
-    pick (eqb e.code 0) (raises 0 r q) (unfiltered r (event_of site e.code e.tick e.message) q)
+abbrev pub carried_past : Option Raise → Site → Receive → List ℕ → Raising
+carried_past None site r q = raises 0 r q
+carried_past (Some e) site r q = unfiltered r (event_of site e.code e.tick e.frame) q
 
--- what done and abort answer once the outbox has, and the event met g: the answer, and every byte of the event table
-pub record EmptiedMet (d : Device) (o : Emptied) (g : Raising) (r : Answer) (queue : List ℕ) : Type 0 where
-  pub answer : r ≡ answer_with o.number o.value (with_receive (with_send d o.send) g.receive)
+-- a device d after an event met g: the receive channel, and every byte of the event table
+pub record Carried (d : Device) (g : Raising) (next : Device) (queue : List ℕ) : Type 0 where
+  pub device : next ≡ with_receive d g.receive
   pub queue_bytes : queue ≡ g.table
 
 -- what the outbox answers and leaves, on the device, with the event that it raises carried to the queue

@@ -1,94 +1,70 @@
 // The transmit register: take, done and abort. The receive side is judged, the rest is the outbox's;
 // the event that it raises is carried to the queue.
-ghost use Rattle.std.specs.Prelude.{◌≡◌, true, []};
+ghost use Rattle.std.specs.Prelude.{◌≡◌, true, [], IfOk};
+ghost use Rattle.common.specs.Refusals.{number_in};
 ghost use Rattle.queue.specs.Channel.{usable};
-ghost use Rattle.queue.specs.Recording.{RaiseMet};
-ghost use Rattle.device.specs.Outcomes.{lends};
-ghost use Rattle.recorder.specs.Outcomes.{QueueMet, TakeMet};
-ghost use Rattle.recorder.specs.Register.{carried_past, EmptiedMet, taken, finished, aborted};
+ghost use Rattle.device.specs.Outcomes.{Outcome, lends};
+ghost use Rattle.recorder.specs.Outcomes.{QueueMet};
+ghost use Rattle.recorder.specs.Register.{Carried, carried_past, taken, finished, aborted};
 
-use crate::Taken;
-use device::{Answer, Device, state};
+use common::refusals::Refusal;
+use device::Device;
+use events::Raise;
 use messages::records::MESSAGE;
-use outbox::{Emptied, Raised};
-use queue::Receive;
-use sites::Site;
 
-// Carries the event that a call raised, if any (code 0 is none), to the queue; only code 1 would meet the filter.
-#[tactic(auto, unfolding(crate::specs::Register::carried_past))]
-fn carry(site: Site, r: Receive, e: Raised, queue: &mut [u8]) -> u32
-    requires { usable r queue.old ≡ true }
-    ensures { RaiseMet (carried_past e site r queue.old) result queue.new }
+// Carries the event that a call raised, if any, to the queue; only code 1 would meet the filter.
+fn carry(d: &mut Device, event: Option<Raise>, queue: &mut [u8])
+    requires { usable d.old.receive queue.old ≡ true }
+    ensures { Carried d.old (carried_past event d.old.shared.site d.old.receive queue.old) d.new queue.new }
 {
-    if e.code == 0 {
-        return 0;
+    if let Some(event) = event {
+        d.receive.past_filter(d.shared.site, event, queue);
     }
-    let m = e.message;
-    queue::recording::past_filter(r, site, e.code, e.tick, m, queue)
-}
-
-// What done and abort answer, with the event carried to the queue.
-fn emptied(d: Device, o: Emptied, queue: &mut [u8]) -> Answer
-    requires { usable d.receive queue.old ≡ true }
-    ensures { EmptiedMet d o (carried_past o.raised d.shared.site d.receive queue.old)
-        result queue.new }
-{
-    let next = o.send;
-    let receive = d.receive;
-    let shared = d.shared;
-    let met = carry(shared.site, receive, o.raised, queue);
-    let after = state::with_channels(d, queue::recording::after_raise(receive, met), next);
-    state::answer(o.number, o.value, after)
 }
 
 // Moves the oldest message to the register.
 #[tactic(auto, unfolding(crate::specs::Register::taken))]
-pub fn take(d: Device, tick: u32, send: &[u8], queue: &mut [u8]) -> Taken
-    ensures { TakeMet (taken tick d (lends queue.old send.now []))
-        result queue.new }
+pub fn take(
+    d: &mut Device,
+    tick: u32,
+    send: &[u8],
+    queue: &mut [u8],
+) -> Result<[u8; MESSAGE], Refusal>
+    ensures met { QueueMet (taken tick d.old (lends queue.old send.now [])) (number_in result) d.new queue.new }
+    ensures bytes { let o : Outcome = taken tick d.old (lends queue.old send.now []) in
+        IfOk result (λ b. b ≡ o.bytes) }
 {
-    if !state::receive_ready(d, queue.len()) {
-        let b = [0u8; MESSAGE];
-        return Taken {
-            number: 2,
-            bytes: b,
-            device: d,
-        };
+    if !d.receive_ready(queue.len()) {
+        return Err(Refusal::NotPossible);
     }
-    let o = outbox::calls::take(d.shared, d.send, tick, send);
-    let b = o.bytes;
-    let next = o.send;
-    let receive = d.receive;
-    let shared = d.shared;
-    let met = carry(shared.site, receive, o.raised, queue);
-    let after = state::with_channels(d, queue::recording::after_raise(receive, met), next);
-    Taken {
-        number: o.number,
-        bytes: b,
-        device: after,
-    }
+    let taken = outbox::calls::take(d.shared, &mut d.send, tick, send)?;
+    carry(d, taken.raised, queue);
+    Ok(taken.bytes)
 }
 
 // Empties the register: its message was transmitted.
 #[tactic(auto, unfolding(crate::specs::Register::finished))]
-pub fn done(d: Device, tick: u32, queue: &mut [u8]) -> Answer
-    ensures { QueueMet (finished tick d (lends queue.old [] [])) result queue.new }
+pub fn done(d: &mut Device, tick: u32, queue: &mut [u8]) -> Result<(), Refusal>
+    ensures { QueueMet (finished tick d.old (lends queue.old [] [])) (number_in result) d.new queue.new }
 {
-    if !state::receive_ready(d, queue.len()) {
-        return state::answer(2, 0, d);
+    if !d.receive_ready(queue.len()) {
+        return Err(Refusal::NotPossible);
     }
-    let o = outbox::calls::done(d.shared, d.send, tick);
-    emptied(d, o, queue)
+    let raised = outbox::calls::done(d.shared, &mut d.send, tick)?;
+    carry(d, raised, queue);
+    Ok(())
 }
 
-// Empties the register, aborting its message, and purges the buffer; answers how many were purged.
+// Empties the register, aborting its message, and purges the buffer: answers how many were purged.
 #[tactic(auto, unfolding(crate::specs::Register::aborted))]
-pub fn abort(d: Device, tick: u32, queue: &mut [u8]) -> Answer
-    ensures { QueueMet (aborted tick d (lends queue.old [] [])) result queue.new }
+pub fn abort(d: &mut Device, tick: u32, queue: &mut [u8]) -> Result<u32, Refusal>
+    ensures met { QueueMet (aborted tick d.old (lends queue.old [] [])) (number_in result) d.new queue.new }
+    ensures purged { let o : Outcome = aborted tick d.old (lends queue.old [] []) in IfOk result (λ n. n ≡ o.value) }
 {
-    if !state::receive_ready(d, queue.len()) {
-        return state::answer(2, 0, d);
+    if !d.receive_ready(queue.len()) {
+        return Err(Refusal::NotPossible);
     }
-    let o = outbox::calls::abort(d.shared, d.send, tick);
-    emptied(d, o, queue)
+    let aborted = outbox::calls::abort(d.shared, &mut d.send, tick)?;
+    carry(d, aborted.raised, queue);
+    Ok(aborted.purged)
 }

@@ -1,34 +1,38 @@
 // Sending a message, binary or as text: the receive channel is judged, the rest is the outbox's.
 ghost use Rattle.std.specs.Prelude.{◌≡◌, []};
-ghost use Rattle.device.specs.Outcomes.{lends};
+ghost use Rattle.common.specs.Refusals.{number_in};
+ghost use Rattle.device.specs.Outcomes.{Outcome, lends};
 ghost use Rattle.recorder.specs.Outcomes.{SendMet};
 ghost use Rattle.recorder.specs.Sending.{sent, text_sent};
 
-use device::{Answer, Device, state};
+use common::refusals::Refusal;
+use device::Device;
 use messages::Message;
+use outbox::TextSent;
+use settings::channel::Channel;
 
 // Sends a message given in binary: format 0, 1 or 2, aligned identifier.
 #[tactic(auto, unfolding(crate::specs::Sending::sent))]
-pub fn send(d: Device, m: Message, send: &mut [u8]) -> Answer
-    ensures { SendMet (sent m d (lends [] send.old [])) result send.new }
+pub fn send(d: &mut Device, m: Message, send: &mut [u8]) -> Result<(), Refusal>
+    ensures { SendMet (sent m d.old (lends [] send.old [])) (number_in result) d.new send.new }
 {
-    if !queue::channel::is_receive(d.receive) {
-        return state::answer(2, 0, d);
+    if !d.receive.is_good() {
+        return Err(Refusal::NotPossible);
     }
-    let o = outbox::calls::send(d.shared, d.send, m, send);
-    let next = o.send;
-    state::answer(o.number, o.value, state::with_send(d, next))
+    outbox::calls::send(d.shared, &mut d.send, m, send)
 }
 
-// Sends the message at the front of a text, in the default format; answers the bytes used.
+// Sends the message at the front of a text, in the default format; answers the bytes used, refused or not.
 #[tactic(auto, unfolding(crate::specs::Sending::text_sent))]
-pub fn send_text(d: Device, text: &[u8], send: &mut [u8]) -> Answer
-    ensures { SendMet (text_sent text.now d (lends [] send.old [])) result send.new }
+pub fn send_text(d: &mut Device, text: &[u8], send: &mut [u8]) -> TextSent
+    ensures write { SendMet (text_sent text.now d.old (lends [] send.old [])) (number_in result.sent) d.new send.new }
+    ensures used { let o : Outcome = text_sent text.now d.old (lends [] send.old []) in result.used ≡ o.value }
 {
-    if !queue::channel::is_receive(d.receive) {
-        return state::answer(2, 0, d);
+    if !d.receive.is_good() {
+        return TextSent {
+            used: 0,
+            sent: Err(Refusal::NotPossible),
+        };
     }
-    let o = outbox::calls::send_text(d.shared, d.send, text, send);
-    let next = o.send;
-    state::answer(o.number, o.value, state::with_send(d, next))
+    outbox::calls::send_text(d.shared, &mut d.send, text, send)
 }

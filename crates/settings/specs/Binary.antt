@@ -1,14 +1,13 @@
 -- A message that comes as binary: format 0, 1 or 2, aligned identifier (01, "Sending").
-use Rattle.std.specs.Prelude.{ℕ, ◌&&◌, eqb}
+use Rattle.std.specs.Prelude.{ℕ, ◌&&◌}
 use Rattle.common.specs.Choice.{pick}
 use Rattle.ids.specs.Ids.{is_format, raw_of, is_bad, id_number}
 use Rattle.filters.specs.Filters.{mode_takes}
 use Rattle.ids.specs.Frames.{rtr_dlc_refusal}
-use Rattle.messages.specs.Records.{stored, no_message}
+use Rattle.messages.specs.Records.{stored}
 use Rattle.messages.specs.declared.Message.{Message}
 use Rattle.settings.specs.Ranges.{format_of}
 use Rattle.settings.specs.declared.Shared.{Shared}
-use Rattle.settings.specs.declared.Brought.{Brought}
 
 -- its format: 0 means the default format
 abbrev pub sent_format : Shared → Message → ℕ
@@ -33,12 +32,3 @@ sent_message s m =
       };
       bytes = m.bytes;
     })
-
--- a refusal, with zeros
-abbrev pub not_brought : ℕ → Brought
-not_brought number = record { number = number; message = no_message }
-
--- the message to store, or the refusal's number
-unfoldable pub brought : Shared → Message → Brought
-brought s m =
-    pick (eqb (binary_refusal s m) 0) (record { number = 0; message = sent_message s m }) (not_brought (binary_refusal s m))

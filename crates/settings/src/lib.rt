@@ -2,11 +2,11 @@
 #![tactic(auto)]
 
 pub mod binary;
+pub mod channel;
 pub mod given;
 pub mod ranges;
 pub mod txmode;
 
-use messages::Message;
 use sites::Site;
 
 // What all channels of a device share.
@@ -33,11 +33,4 @@ pub struct Settings {
     pub tx: u32,
     pub buffer: u32,
     pub site: Site,
-}
-
-// A message that a call brings as binary: 0 and the message to store, or the refusal's number and zeros.
-#[derive(Clone, Copy)]
-pub struct Brought {
-    pub number: u32,
-    pub message: Message,
 }

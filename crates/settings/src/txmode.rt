@@ -7,10 +7,7 @@ ghost use Rattle.settings.specs.TxMode.{good_tx, raises_at_take, raises_at_done}
 pub fn is_tx(tx: u32) -> bool
     ensures { result ≡ good_tx tx }
 {
-    match tx {
-        1 | 3 | 5 | 7 => true,
-        _ => false,
-    }
+    matches!(tx, 1 | 3 | 5 | 7)
 }
 
 // A transmitted event is raised at take.
@@ -18,10 +15,7 @@ pub fn is_tx(tx: u32) -> bool
 pub fn raises_at_take(tx: u32) -> bool
     ensures { result ≡ raises_at_take tx }
 {
-    if (tx >> 1) % 2 != 1 {
-        return false;
-    }
-    (tx >> 2) % 2 == 0
+    (tx >> 1) % 2 == 1 && (tx >> 2) % 2 == 0
 }
 
 // A transmitted event is raised at done.
@@ -29,8 +23,5 @@ pub fn raises_at_take(tx: u32) -> bool
 pub fn raises_at_done(tx: u32) -> bool
     ensures { result ≡ raises_at_done tx }
 {
-    if (tx >> 1) % 2 != 1 {
-        return false;
-    }
-    (tx >> 2) % 2 == 1
+    (tx >> 1) % 2 == 1 && (tx >> 2) % 2 == 1
 }

@@ -1,51 +1,37 @@
 // The event text and its room, as request M-106 changed them: two fields more, the site's, here zero.
 use crate::{queueing, setting};
-use device::Device;
+use common::refusals::Refusal;
+use event_text::printing::ROOM;
+use events::Raise;
 use events::records::EVENT;
 use recorder::receiving;
 
-// The number of a read into a room.
-fn write_room(rt: &impl Print, said: &[u8], number: u32) {
+// The number of a read into a room: its refusal, or 0.
+fn write_room(rt: &impl Print, said: &[u8], read: Result<usize, Refusal>) {
     show::words::says(rt, said);
-    show::write_number(rt, number);
+    show::write_number(rt, read.map_or_else(Refusal::number, |_| 0));
     show::end_line(rt);
 }
 
-fn write_line(rt: &impl Print, number: u32, line: &[u8], length: usize) {
-    write_room(rt, b"103 good", number);
+// One event kept and five lost, so that the event behind them has lost 5.
+pub fn cases(rt: &impl Print) -> Result<(), Refusal> {
+    let mut queue = [0; EVENT];
+    let mut d = queueing::play(rt, b"123456-", false, &mut queue)?;
+    let event = Raise {
+        code: 1,
+        tick: 12568,
+        frame: setting::frame(0x112, 1, 0, [0; 2]),
+    };
+    receiving::raise(&mut d, event, &mut queue)?;
+    let short = receiving::read_text(&mut d, &queue, &mut [0; ROOM - 1]);
+    write_room(rt, b"Room 102 refused (M-106)", short);
+    let mut room = [0; ROOM];
+    let good = receiving::read_text(&mut d, &queue, &mut room);
+    write_room(rt, b"103 good", good);
     show::words::says(
         rt,
         b"`received` TAB `0:12568` TAB `+00:00` TAB `0` TAB `00000112` TAB `1` TAB `0` TAB `5` LF",
     );
-    show::write_front(rt, line, length);
-}
-
-fn read_line(rt: &impl Print, d: Device, queue: &[u8]) {
-    let mut room = [0u8; event_text::printing::ROOM];
-    let good = receiving::read_text(d, queue, &mut room);
-    write_line(rt, good.number, &room, good.value);
-}
-
-fn write_short(rt: &impl Print, number: u32) {
-    write_room(rt, b"Room 102 refused (M-106)", number);
-}
-
-fn read_short(rt: &impl Print, d: Device, queue: &[u8]) {
-    let refused = receiving::read_text(d, queue, &mut [0u8; 102]);
-    write_short(rt, refused.number);
-    read_line(rt, refused.device, queue);
-}
-
-fn raise(rt: &impl Print, d: Device, table: [u8; EVENT]) {
-    let mut queue = table;
-    let m = setting::frame(0x112, 1, 0, 0, 0);
-    let raised = receiving::raise(d, 1, 12568, m, &mut queue);
-    read_short(rt, raised.device, &queue);
-}
-
-// One event kept and five lost, so that the event behind them has lost 5.
-pub fn cases(rt: &impl Print) {
-    let mut queue = [0u8; EVENT];
-    let emptied = queueing::play(rt, b"123456-", false, &mut queue);
-    raise(rt, emptied.device, queue);
+    show::write_front(rt, &room, good.unwrap_or(0));
+    Ok(())
 }

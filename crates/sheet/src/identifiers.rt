@@ -1,55 +1,58 @@
 // Identifiers under an Align, the filter, and the identifiers that it lets through.
 use crate::setting;
-use digits::Printed;
+use common::refusals::Refusal;
+use events::Raise;
 use events::records::EVENT;
-use recorder::{Through, printing, receiving};
+use message_text::printing::ROOM;
+use queue::Met;
+use recorder::{printing, receiving};
 
 // Prints raw identifier 731.
-fn print(align: u32, out: &mut [u8]) -> Printed {
-    let opened = setting::open(align, 0, 0, 1);
-    let m = setting::frame(0x731, 0, 0, 0, 0);
-    printing::print_message(opened.device, m, out)
+fn print(align: u32, out: &mut [u8]) -> Result<usize, Refusal> {
+    let d = setting::open(align, 0, 0, 1)?;
+    printing::print_message(d, setting::frame(0x731, 0, 0, [0; 2]), out)
 }
 
 fn shown(rt: &impl Print, said: &[u8], align: u32) {
     show::words::says(rt, said);
-    let mut out = [0u8; message_text::printing::ROOM];
-    let printed = print(align, &mut out);
-    if printed.number != 0 {
-        show::write_refused(rt, printed.number, 0);
-        return;
+    let mut out = [0; ROOM];
+    match print(align, &mut out) {
+        Ok(n) => show::write_front(rt, &out, n),
+        Err(why) => show::write_refused(rt, why.number(), 0),
     }
-    show::write_front(rt, &out, printed.length);
 }
 
 // Raises frame 200 as received.
-fn raise(dlc: u32, first: u8) -> u32 {
-    let opened = setting::open(0, 0x40000100, 0x000000FF, 1);
-    let m = setting::frame(0x200, 0, dlc, first, 7);
-    let raised = receiving::raise(opened.device, 1, 0, m, &mut [0u8; EVENT]);
-    raised.number
+fn raise(dlc: u32, first: u8) -> Result<Met, Refusal> {
+    let mut d = setting::open(0, 0x40000100, 0x000000FF, 1)?;
+    let event = Raise {
+        code: 1,
+        tick: 0,
+        frame: setting::frame(0x200, 0, dlc, [first, 7]),
+    };
+    receiving::raise(&mut d, event, &mut [0; EVENT])
 }
 
 fn met(rt: &impl Print, said: &[u8], dlc: u32, first: u8) {
     show::words::says(rt, said);
-    show::words::write_raised(rt, raise(dlc, first));
+    show::words::write_met(rt, raise(dlc, first));
 }
 
 // Counts the standard identifiers let through at Align 1.
-fn count(code: u32, mask: u32) -> Through {
-    let opened = setting::open(1, code, mask, 1);
-    receiving::identifiers_through(opened.device, 1)
+fn count(code: u32, mask: u32) -> Result<u32, Refusal> {
+    let d = setting::open(1, code, mask, 1)?;
+    receiving::identifiers_through(d, 1)
 }
 
 fn through(rt: &impl Print, said: &[u8], code: u32, mask: u32) {
     show::words::says(rt, said);
-    let counted = count(code, mask);
-    if counted.number != 0 {
-        show::write_refused(rt, counted.number, 0);
-        return;
+    match count(code, mask) {
+        Ok(n) => {
+            show::write_number(rt, n);
+            show::end_line(rt);
+        }
+        Err(why) => show::write_refused(rt, why.number(), 0),
     }
-    show::write_number(rt, counted.count);
-    show::end_line(rt);
 }
 
 fn aligned(rt: &impl Print) {

@@ -7,9 +7,11 @@ mod message_texts;
 mod queueing;
 mod setting;
 
-fn main(rt: HostRuntime) {
-    message_texts::cases(&rt);
+use common::refusals::Refusal;
+
+fn main(rt: HostRuntime) -> Result<(), Refusal> {
+    message_texts::cases(&rt)?;
     identifiers::cases(&rt);
-    queueing::cases(&rt);
-    event_line::cases(&rt);
+    queueing::cases(&rt)?;
+    event_line::cases(&rt)
 }

@@ -1,8 +1,7 @@
 -- The lines that the bench program prints (01, "Bench sheet").
-use Rattle.std.specs.Prelude.{ℕ, ◌≡◌, List, [], ◌∷◌, ◌++◌, length, take}
+use Rattle.std.specs.Prelude.{ℕ, List, [], ◌∷◌, ◌++◌}
 use Rattle.digits.specs.Ascii.{ascii}
 use Rattle.digits.specs.Digits.{hex, decimal}
-use Rattle.show.specs.declared.Line.{Line}
 
 -- each byte as two digits
 unfoldable pub pairs : List ℕ → List ℕ
@@ -16,8 +15,3 @@ record_line bytes = pairs bytes ++ 10 ∷ []
 -- "`refused N used U`, N the refusal and U the bytes used"
 abbrev pub refused_line : ℕ → ℕ → List ℕ
 refused_line number used = ascii "refused " ++ decimal number ++ ascii " used " ++ decimal used ++ 10 ∷ []
-
--- the line stands at the front of the buffer, and its length beside it
-pub record LineHeld (line : List ℕ) (r : Line) : Type 0 where
-  pub length : r.length ≡ length line
-  pub bytes : take r.length r.bytes ≡ line

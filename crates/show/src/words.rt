@@ -1,50 +1,44 @@
 // What stands before and behind a computed value of the bench sheet.
+use crate::{write_number, write_text};
+use common::refusals::Refusal;
+use queue::Met;
 
 // Writes the paper's words for a case, and what sets them off from the value.
 pub fn says(rt: &impl Print, words: &[u8]) {
-    crate::write_text(rt, words);
-    crate::write_text(rt, b" => ");
+    write_text(rt, words);
+    write_text(rt, b" => ");
 }
 
 // Writes the paper's mark of the cases that are proved as well.
 pub fn mark(rt: &impl Print, proved: bool) {
     if proved {
-        crate::write_text(rt, b"P ");
+        write_text(rt, b"P ");
     }
 }
 
-// Writes a byte of a text as the paper does.
-fn write_byte(rt: &impl Print, text: &[u8], b: u8) {
-    if b == 10 {
-        crate::write_text(rt, b"\\n");
-        return;
-    }
-    if b == 13 {
-        crate::write_text(rt, b"\\r");
-        return;
-    }
-    crate::write_text(rt, text);
-}
-
-// Writes a text from its opening quote on, with the paper's words behind its closing one, and what sets them off.
+// Writes a text from its opening quote on, each end as the paper writes it, with the paper's words behind its closing
+// one, and what sets them off.
 pub fn write_case(rt: &impl Print, text: &[u8]) {
-    crate::write_text(rt, b"\"");
-    let mut i = 0;
-    while i < text.len() {
-        write_byte(rt, &text[i..i + 1], text[i]);
-        i += 1;
+    write_text(rt, b"\"");
+    for &b in text {
+        match b {
+            b'\n' => write_text(rt, b"\\n"),
+            b'\r' => write_text(rt, b"\\r"),
+            _ => write_text(rt, &[b]),
+        }
     }
-    crate::write_text(rt, b" => ");
+    write_text(rt, b" => ");
 }
 
-// Writes the number of a raise and what the paper calls it, and LF.
-pub fn write_raised(rt: &impl Print, number: u32) {
-    crate::write_number(rt, number);
-    match number {
-        100 => crate::write_text(rt, b", recorded\n"),
-        101 => crate::write_text(rt, b", filtered\n"),
-        102 => crate::write_text(rt, b", masked\n"),
-        103 => crate::write_text(rt, b", lost\n"),
-        _ => crate::write_text(rt, b", refused\n"),
-    }
+// Writes the number of a raise and what the paper calls what its event met, and LF.
+pub fn write_met(rt: &impl Print, raised: Result<Met, Refusal>) {
+    write_number(rt, raised.map_or_else(Refusal::number, Met::number));
+    let what: &[u8] = match raised {
+        Ok(Met::Recorded) => b", recorded\n",
+        Ok(Met::Filtered) => b", filtered\n",
+        Ok(Met::Masked) => b", masked\n",
+        Ok(Met::Lost) => b", lost\n",
+        Err(_) => b", refused\n",
+    };
+    write_text(rt, what);
 }

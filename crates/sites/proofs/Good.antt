@@ -1,14 +1,12 @@
 -- What it says of a site's two numbers that they are in range.
-use Prim.Native.Nat.{ℕ, ◌^◌, ◌≤◌, ◌<◌}
+use Prim.Native.Nat.{ℕ, ◌≤◌, ◌<◌}
 use mathlib.Core.Path.{◌≡◌, refl}
-use mathlib.Core.Bool.{true, and-true}
-use native.Mathlib.Omega.{arith}
+use mathlib.Core.Bool.{true}
 use lib.Dec.{ltb, leb}
-use borrow.Author.Tests.{lt-ltb, le-leb, lt-leb, ltb-true, leb-true}
+use borrow.Author.Tests.{ltb-true, leb-true}
 use Rattle.common.proofs.Bools.{and_left, and_right}
 use Rattle.common.proofs.Choices.{by_test}
 use Rattle.sites.specs.Sites.{good_offset, last_second, good_site, no_site}
-use Rattle.sites.specs.Texts.{minutes}
 use Rattle.sites.specs.declared.Site.{Site}
 
 -- a good offset is one of 0 to 840, or one of the 720 largest 32-bit numbers
@@ -20,11 +18,6 @@ good_offset_lem n h east west =
     let b = ltb n 4294967296 in
     by_test (leb n 840) (λ t. east (leb-true n 840 t))
     (λ f. west (leb-true 4294966576 n (and_left a b (rw f at h))) (ltb-true n 4294967296 (and_right a b (rw f at h))))
-
--- the code's second test
-pub past_east : (n : ℕ) → 840 < n → n < 2 ^ 32 → good_offset n ≡ leb 4294966576 n
-unfolding good_offset
-past_east n h l = rw (lt-leb n 840 h, lt-ltb n 4294967296 l) (and-true (leb 4294966576 n))
 
 -- both numbers of a good site are in range
 pub good_site_lem : (s : Site) → good_site s ≡ true → (good_offset s.offset ≡ true) × (s.second ≤ last_second)
@@ -38,9 +31,3 @@ good_site_lem s h =
 pub no_site_good : good_site no_site ≡ true
 unfolding good_site good_offset
 no_site_good = refl
-
--- no good offset is more than fourteen hours
-pub minutes_le : (n : ℕ) → good_offset n ≡ true → minutes n ≤ 840
-minutes_le n h =
-    good_offset_lem n h (λ l. rw (lt-leb 2147483648 n (omega arith)) l)
-    (λ l m. rw (le-leb 2147483648 n (omega arith)) (omega arith))

@@ -1,6 +1,6 @@
 -- Sites and their bytes: what is written is read back, and what is read is written again.
-use Prim.Native.Nat.{ℕ, suc, ◌+◌, ◌*◌, ◌/◌, ◌%◌, ◌≤◌, ◌<◌}
-use mathlib.Core.Path.{◌≡◌, refl, sym, subst}
+use Prim.Native.Nat.{ℕ, suc, ◌+◌, ◌/◌, ◌%◌, ◌≤◌, ◌<◌}
+use mathlib.Core.Path.{◌≡◌, refl, sym, subst, ◌∙◌}
 use mathlib.Core.Bool.{true}
 use mathlib.Core.List.{List, [], ◌∷◌, ◌++◌}
 use native.Mathlib.Omega.{arith}
@@ -8,10 +8,12 @@ use lib.ListN.{length, get_or}
 use lib.Seq.{slice}
 use lib.Dec.{ltb, eqb}
 use borrow.Author.Tests.{lt-ltb, le-ltb, eqb-true}
+use Rattle.std.specs.Int.{w16, w64, from_le_bytes}
 use Rattle.common.specs.Numbers.{Bytes, bytes_of, number_of}
 use Rattle.common.proofs.Bools.{and_left, and_right}
 use Rattle.common.proofs.Choices.{by_test}
 use Rattle.common.proofs.Lists.{reads, reads_slice, reads_all}
+use Rattle.common.proofs.LittleEndian.{from_16}
 use Rattle.common.proofs.Numbers.{number_back, bytes_back, bytes_drop}
 use Rattle.sites.specs.Sites.{good_offset, good_site, site_bytes, extended, site_in, is_site}
 use Rattle.sites.specs.declared.Site.{Site}
@@ -73,18 +75,22 @@ bytes_of_site b g l =
     both p q = rw (p, q)
 
 -- a site read from byte `at` on
-pub site_read : (s : List ℕ) (at offset low high : ℕ) → at + 8 ≤ length s
-    → offset ≡ extended (number_of (get_or s at 0 ∷ get_or s (at + 1) 0 ∷ []))
-    → low ≡ number_of (get_or s (at + 2) 0 ∷ get_or s (at + 3) 0 ∷ [])
-    → high ≡ number_of (slice (at + 4) (at + 4 + 4) s)
-    → record { offset = offset; second = low + 65536 * high } ≡ site_in (slice at (at + 8) s)
+pub site_read : (s : List ℕ) (at n offset second : ℕ) → at + 8 ≤ length s
+    → n ≡ from_le_bytes w16 (get_or s at 0 ∷ get_or s (at + 1) 0 ∷ [])
+    → offset ≡ extended n
+    → second ≡ from_le_bytes w64 (get_or s (at + 2) 0 ∷ get_or s (at + 3) 0 ∷ get_or s (at + 4) 0 ∷ get_or s (at + 5) 0
+    ∷ get_or s (at + 6) 0 ∷ get_or s (at + 7) 0 ∷ 0 ∷ 0 ∷ [])
+    → record { offset = offset; second = second } ≡ site_in (slice at (at + 8) s)
 unfolding site_in
-site_read s at offset low high h o l k =
+site_read s at n offset second h e o k =
     let e1 : at + 1 ≡ suc at = omega arith in
     let e2 : at + 2 ≡ suc (suc at) = omega arith in
     let e3 : at + 3 ≡ suc (suc (suc at)) = omega arith in
     let e4 : at + 4 ≡ suc (suc (suc (suc at))) = omega arith in
-    let q = rw (e2, e3) at l in
-    let f : number_of (reads s (suc (suc at)) 6) ≡ low + 65536 * high =
-    rw (q, k, ← reads_slice s (at + 4) 4 (omega arith), e4) (omega arith) in
-    rw (← reads_slice s at 8 h, f, o, e1)
+    let e5 : at + 5 ≡ suc (suc (suc (suc (suc at)))) = omega arith in
+    let e6 : at + 6 ≡ suc (suc (suc (suc (suc (suc at))))) = omega arith in
+    let e7 : at + 7 ≡ suc (suc (suc (suc (suc (suc (suc at)))))) = omega arith in
+    let q = rw (e2, e3, e4, e5, e6, e7) at k in
+    let f : second ≡ number_of (reads s (suc (suc at)) 6) = q ∙ omega arith in
+    let g : n ≡ number_of (reads s at 2) = (rw e1 at e) ∙ from_16 (get_or s at 0) (get_or s (suc at) 0) in
+    rw (← reads_slice s at 8 h, f, o, g)

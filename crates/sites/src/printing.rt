@@ -1,61 +1,63 @@
-// A site as text, written into a lent buffer: TAB, sign and hh:mm, TAB, the second in decimal.
-ghost use Rattle.std.specs.Prelude.{◌≡◌, true, ◌+◌, ◌<◌, ◌≤◌, length};
-ghost use Rattle.digits.specs.Written.{Put};
+// A site as text: TAB, sign and hh:mm, TAB, the second in decimal.
+ghost use Rattle.std.specs.Prelude.{◌≡◌, true, ◌++◌, ◌+◌, ◌<◌, ◌≤◌, length};
 ghost use Rattle.sites.specs.Sites.{good_offset, good_site};
 ghost use Rattle.sites.specs.Texts.{sign_of, minutes, two_digits, offset_text, site_text};
 
 use crate::Site;
-use digits::writing;
+use digits::Line;
+
+// The offsets from here on are below zero, in two's complement.
+const WEST: u32 = 0x8000_0000;
 
 // The sign of an offset: plus for zero.
 fn sign_of(n: u32) -> u8
     ensures { result ≡ sign_of n }
 {
-    if 2147483648 <= n {
-        return 45;
-    }
-    43
+    if n < WEST { b'+' } else { b'-' }
 }
 
-// The minutes of an offset without their sign.
+// The minutes of an offset without their sign: fourteen hours at most.
+#[tactic(auto, unfolding(crate::specs::Sites::good_offset))]
 fn minutes(n: u32) -> u32
-    ensures { result ≡ minutes n }
+    requires { good_offset n ≡ true }
+    ensures count { result ≡ minutes n }
+    ensures few { result ≤ 840 }
 {
-    if 2147483648 <= n {
-        return (4294967295 - n) + 1;
-    }
-    n
+    if n < WEST { n } else { n.wrapping_neg() }
 }
 
 // A number below a hundred as two digits.
-fn put_two(out: &mut [u8], at: usize, k: u32) -> usize
-    requires { (k < 100) × (at + 2 ≤ length out.old) }
-    ensures { Put out.old at (two_digits k) out.new result }
+fn put_two<const N: usize>(line: &mut Line<N>, k: u32)
+    requires digits { k < 100 }
+    requires room { length line.old + 2 ≤ N }
+    ensures { line.new ≡ line.old ++ two_digits k }
 {
-    let p = writing::put_byte(out, at, 48 + ((k / 10) as u8));
-    writing::put_byte(out, p, 48 + ((k % 10) as u8))
+    line.byte(b'0' + (k / 10) as u8);
+    line.byte(b'0' + (k % 10) as u8);
 }
 
 // The sign, the hours, a colon and the minutes.
-#[tactic(auto, unfolding(crate::specs::Texts::offset_text), using(crate::proofs::Good::minutes_le))]
-fn put_offset(out: &mut [u8], at: usize, n: u32) -> usize
-    requires { (good_offset n ≡ true) × (at + 6 ≤ length out.old) }
-    ensures { Put out.old at (offset_text n) out.new result }
+#[tactic(auto, unfolding(crate::specs::Texts::offset_text))]
+fn put_offset<const N: usize>(line: &mut Line<N>, n: u32)
+    requires good { good_offset n ≡ true }
+    requires room { length line.old + 6 ≤ N }
+    ensures { line.new ≡ line.old ++ offset_text n }
 {
     let m = minutes(n);
-    let p = writing::put_byte(out, at, sign_of(n));
-    let q = put_two(out, p, m / 60);
-    let r = writing::put_byte(out, q, 58);
-    put_two(out, r, m % 60)
+    line.byte(sign_of(n));
+    put_two(line, m / 60);
+    line.byte(b':');
+    put_two(line, m % 60);
 }
 
 // A site's two fields, each behind a TAB.
-#[tactic(auto, using(crate::proofs::Good::good_site_lem, crate::proofs::Lengths::site_length, crate::proofs::Lengths::offset_length))]
-pub fn put_site(out: &mut [u8], at: usize, s: Site) -> usize
-    requires { (good_site s ≡ true) × (at + length (site_text s) ≤ length out.old) }
-    ensures { Put out.old at (site_text s) out.new result }
+#[tactic(auto, unfolding(crate::specs::Texts::site_text), using(crate::proofs::Lengths::site_length, crate::proofs::Lengths::offset_length))]
+pub fn put_site<const N: usize>(line: &mut Line<N>, s: Site)
+    requires good { good_site s ≡ true }
+    requires room { length line.old + length (site_text s) ≤ N }
+    ensures { line.new ≡ line.old ++ site_text s }
 {
-    let p = writing::put_byte(out, at, 9);
-    let q = put_offset(out, p, s.offset);
-    writing::put_number(out, q, 9, s.second)
+    line.byte(b'\t');
+    put_offset(line, s.offset);
+    line.number(b'\t', s.second);
 }

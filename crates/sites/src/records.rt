@@ -1,70 +1,32 @@
 // A site's 8 bytes: the offset, then the second.
-ghost use Rattle.std.specs.Prelude.{◌≡◌, [], ◌∷◌, ◌+◌, ◌*◌, ◌≤◌, length};
+ghost use Rattle.std.specs.Prelude.{◌≡◌, ◌+◌, ◌<◌, ◌≤◌, length};
 ghost use Rattle.std.proofs.Math.Seq.{slice};
-ghost use Rattle.common.specs.Numbers.{number_of};
-ghost use Rattle.sites.specs.Sites.{no_site, extended, site_bytes, site_in};
+ghost use Rattle.sites.specs.Sites.{extended, site_bytes, site_in};
 
 use crate::Site;
 
 // The bytes of a site.
 pub const SITE: usize = 8;
 
-// The site that stands beside a refusal: zeros.
-pub fn no_site() -> Site
-    ensures { result ≡ no_site }
-{
-    Site {
-        offset: 0,
-        second: 0,
+impl Site {
+    // Its bytes: the lowest two of the offset, and the lowest six of the second.
+    #[tactic(auto, unfolding(crate::specs::Sites::site_bytes), using(common::proofs::LittleEndian::to_32, common::proofs::LittleEndian::to_64))]
+    pub fn record(self) -> [u8; SITE]
+        ensures { result ≡ site_bytes self }
+    {
+        let mut b = [0; SITE];
+        b[..2].copy_from_slice(&self.offset.to_le_bytes()[..2]);
+        b[2..].copy_from_slice(&self.second.to_le_bytes()[..6]);
+        b
     }
 }
 
-// The bytes of a site, each number lowest byte first.
-#[tactic(auto, unfolding(crate::specs::Sites::site_bytes))]
-pub fn site_bytes(s: Site) -> [u8; SITE]
-    ensures { result ≡ site_bytes s }
+// A stored offset with its sign extended.
+fn extended(n: u32) -> u32
+    requires { n < 65536 }
+    ensures { result ≡ extended n }
 {
-    let offset1 = s.offset / 256;
-    let second1 = s.second / 256;
-    let second2 = second1 / 256;
-    let second3 = second2 / 256;
-    let second4 = second3 / 256;
-    let second5 = second4 / 256;
-    [
-        (s.offset % 256) as u8,
-        (offset1 % 256) as u8,
-        (s.second % 256) as u8,
-        (second1 % 256) as u8,
-        (second2 % 256) as u8,
-        (second3 % 256) as u8,
-        (second4 % 256) as u8,
-        (second5 % 256) as u8,
-    ]
-}
-
-// The number that two bytes stand for, lowest first.
-fn pair_of(a: u8, b: u8) -> u32
-    ensures { result ≡ number_of (a ∷ b ∷ []) }
-{
-    (a as u32) + 256 * (b as u32)
-}
-
-// The offset in two bytes, lowest first: the sign is extended.
-fn offset_of(a: u8, b: u8) -> u32
-    ensures { result ≡ extended (number_of (a ∷ b ∷ [])) }
-{
-    let n = pair_of(a, b);
-    if n < 32768 {
-        return n;
-    }
-    n + 4294901760
-}
-
-// A number of six bytes, from its two lowest bytes and the four above them.
-fn joined(low: u32, high: u32) -> u64
-    ensures { result ≡ low + 65536 * high }
-{
-    (low as u64) + 65536 * (high as u64)
+    if n < 32768 { n } else { n + 4294901760 }
 }
 
 // The site in the eight bytes from `at` on.
@@ -73,11 +35,19 @@ pub fn site_at(s: &[u8], at: usize) -> Site
     requires { at + 8 ≤ length s.now }
     ensures { result ≡ site_in (slice at (at + 8) s.now) }
 {
-    let offset = offset_of(s[at], s[at + 1]);
-    let low = pair_of(s[at + 2], s[at + 3]);
-    let high = common::number_at(s, at + 4);
+    let n = u16::from_le_bytes([s[at], s[at + 1]]);
+    let second = [
+        s[at + 2],
+        s[at + 3],
+        s[at + 4],
+        s[at + 5],
+        s[at + 6],
+        s[at + 7],
+        0,
+        0,
+    ];
     Site {
-        offset: offset,
-        second: joined(low, high),
+        offset: extended(n as u32),
+        second: u64::from_le_bytes(second),
     }
 }

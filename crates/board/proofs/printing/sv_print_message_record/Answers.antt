@@ -1,17 +1,11 @@
-use mathlib.Core.Path.{sym, ◌∙◌}
-use Rattle.board.proofs.Ways.{not_with, print_called}
-use Rattle.kept.proofs.Laws.{state_long}
+use Rattle.model.specs.Box.{print_message_record}
+use Rattle.kept.proofs.Laws.{chosen}
+use Rattle.board.proofs.Ways.{print_called}
 use Rattle.board.proofs.printing.sv_print_message_record.Goals as goal
-
-pub returns-then-not-is_state : goal.returns-then-not-is_state
-returns-then-not-is_state c = not_with _ _ _ (sym c.is_state.ensures ∙ c.if-not-is_state.true)
-
-pub device_in-d-requires : goal.device_in-d-requires
-device_in-d-requires c = state_long _ (sym c.is_state.ensures ∙ c.if-not-is_state.false)
 
 pub returns : goal.returns
 returns c =
-    let is_state = c.is_state in
-    let print = c.print_message_record-r in
-    print_called _ (λ i. (c.type_inv.state i).fits) (sym is_state.ensures ∙ c.if-not-is_state.false)
-    c.device_in-d.ensures _ _ print.ensures c.hand.ensures
+    let s = chosen _ c.device_in.ensures c.in-Some.is in
+    let h = c.hand.ensures in
+    print_called (print_message_record c.args.s.now) _ _
+    (λ i. (c.type_inv.state i).fits) s.0 s.1 c.print_message_record-printed.ensures h.number h.value h.kept

@@ -1,40 +1,17 @@
-use Rattle.board.proofs.Ways.{not_with, look_taken, look_refused, look_shown}
+use Rattle.std.proofs.Common.{arith}
 use Rattle.queue.proofs.Laws.{receive_ring}
-use Rattle.inbox.proofs.Laws.{look_good}
-use native.Mathlib.Omega.{arith}
-use Rattle.kept.proofs.Laws.{state_long}
-use mathlib.Core.Path.{refl, sym, ◌∙◌}
-use lib.ListN.{length}
+use Rattle.kept.proofs.Laws.{chosen}
+use Rattle.board.proofs.Ways.{look_may, look_shown}
 use Rattle.board.proofs.receiving.sv_look.Goals as goal
 
-pub returns-then-not-is_state : goal.returns-then-not-is_state
-returns-then-not-is_state c = not_with _ _ _ (sym c.is_state.ensures ∙ c.if-not-is_state.true)
-
-pub device_in-d-requires : goal.device_in-d-requires
-device_in-d-requires c = state_long _ (sym c.is_state.ensures ∙ c.if-not-is_state.false)
-
-pub returns-then-number-ne0 : goal.returns-then-number-ne0
-returns-then-number-ne0 c =
-    let device_in = c.device_in-d in
-    look_refused _ (λ i. (c.type_inv.state i).fits) (sym c.is_state.ensures ∙ c.if-not-is_state.false)
-    device_in.ensures _ _ c.look_number-number.ensures c.if-number-ne0.true
-
-pub slot_of-requires : goal.slot_of-requires
-slot_of-requires c =
-    let a = c.args in
-    let device_in = c.device_in-d in
-    let look_number = c.look_number-number in
-    let if2 = c.if-number-ne0 in
-    let d = device_in.result in
-    let none = look_taken a.p d a.queue.now (sym look_number.ensures ∙ if2.false) in
-    let g = look_good d.shared d.receive (length a.queue.now) a.p _ refl none in
-    let f = receive_ring d.receive g.0 in
-    (omega (arith, f.within), f.first_in, omega (arith, f.count_in, g.1))
+pub place-requires : goal.place-requires
+place-requires c =
+    let may = look_may c.args.p c.in-Some.d c.args.queue.now c.in_default-check_look.ensures in
+    let ring = receive_ring c.in-Some.d.receive may.0 in
+    record { ring = (omega arith, ring.first_in, omega arith); width = omega arith }
 
 pub returns : goal.returns
 returns c =
-    let device_in = c.device_in-d in
-    let look_number = c.look_number-number in
-    let if2 = c.if-number-ne0 in
-    look_shown _ (λ i. (c.type_inv.state i).fits) (sym c.is_state.ensures ∙ c.if-not-is_state.false)
-    device_in.ensures _ _ look_number.ensures if2.false c.slot_of.ensures
+    let s = chosen _ c.device_in.ensures c.in-Some.is in
+    look_shown c.args.p _ c.args.queue.now (λ i. (c.type_inv.state i).fits) s.0 s.1
+    c.in_default-check_look.ensures c.place.ensures.place

@@ -1,37 +1,39 @@
-use mathlib.Core.Path.{sym, ◌∙◌}
-use Rattle.inbox.proofs.Laws.{next_by}
-use Rattle.queue.proofs.Laws.{room_for}
-use Rattle.kept.proofs.Laws.{state_long}
+use Rattle.std.proofs.Common.{sym, ◌∙◌}
 use Rattle.kept.proofs.Judged.{possible_state, possible_good, good_receive_lem}
-use Rattle.board.proofs.Ways.{not_raised, raise_called}
+use Rattle.kept.proofs.Laws.{chosen, not_chosen, kept_old}
+use Rattle.board.proofs.Ways.{not_raised, raised_called, raised_left, met_left}
 use Rattle.board.proofs.receiving.sv_raise.Goals as goal
 
-pub returns-then-not-is_possible : goal.returns-then-not-is_possible
-returns-then-not-is_possible c = not_raised _ _ _ _ _ (sym c.is_possible.ensures ∙ c.if-not-is_possible.true)
+pub returns-in_default : goal.returns-in_default
+returns-in_default c =
+    rw c.number.ensures
+    (not_raised c.args.state.now c.args.code c.args.tick _ c.args.queue.now
+    (not_chosen _ _ c.possible_device_in.ensures c.in_default.is))
 
-pub device_in-d-requires : goal.device_in-d-requires
-device_in-d-requires c =
-    state_long _ (possible_state _ (sym c.is_possible.ensures ∙ c.if-not-is_possible.false))
-
-pub raise_possible-number-requires : goal.raise_possible-number-requires
-raise_possible-number-requires c =
-    let able = possible_good _ (sym c.is_possible.ensures ∙ c.if-not-is_possible.false) in
-    let made = c.device_in-d in
-    good_receive_lem made.result (rw made.ensures able)
-
-pub after_raise-next-requires : goal.after_raise-next-requires
-after_raise-next-requires c =
-    let d = c.device_in-d.result in
-    let a = c.args in
-    let met = c.raise_possible-number.ensures in
-    room_for (next_by d.shared d.receive a.code a.tick _ a.queue.now) met.number
+pub raise_possible-requires : goal.raise_possible-requires
+raise_possible-requires c =
+    let s = chosen _ c.possible_device_in.ensures c.in-Some.is in
+    good_receive_lem c.in-Some.d (rw s.1 (possible_good c.args.state.now s.0))
 
 pub leave_counted-requires : goal.leave_counted-requires
 leave_counted-requires c =
-    possible_state _ (sym c.is_possible.ensures ∙ c.if-not-is_possible.false)
+    possible_state c.args.state.now (chosen _ c.possible_device_in.ensures c.in-Some.is).0
 
-pub returns : goal.returns
-returns c =
-    let met = rw c.message-m.ensures at c.raise_possible-number.ensures in
-    raise_called _ (sym c.is_possible.ensures ∙ c.if-not-is_possible.false) c.device_in-d.ensures
-    _ _ _ _ met c.after_raise-next.ensures c.leave_counted.ensures
+pub returns-in-Err : goal.returns-in-Err
+returns-in-Err c =
+    let a = c.args in
+    let s = chosen _ c.possible_device_in.ensures c.in-Some.is in
+    let met = rw c.message-frame.ensures at c.in-Err.ensures in
+    rw c.number-in-Err.ensures
+    (raised_called a.state.now a.code a.tick _ a.queue.now s.0 s.1 met
+    (sym (kept_old c.in-Err.refusal a.state.now _)))
+
+pub returns-in-Ok : goal.returns-in-Ok
+returns-in-Ok c =
+    let a = c.args in
+    let s = chosen _ c.possible_device_in.ensures c.in-Some.is in
+    let met = rw c.message-frame.ensures at c.in-Ok.ensures in
+    rw c.number-in-Ok.ensures
+    (raised_called a.state.now a.code a.tick _ a.queue.now s.0 s.1 met
+    (raised_left a.state.now a.code a.tick _ a.queue.now s.0 s.1 met.receive c.leave_counted.ensures
+    ∙ sym (met_left c.in-Ok.met a.state.now _)))

@@ -1,29 +1,21 @@
-use mathlib.Core.Path.{sym, ◌∙◌}
-use mathlib.Core.List.{[]}
-use Rattle.device.specs.Outcomes.{lends}
-use Rattle.recorder.specs.Receiving.{record_read}
-use Rattle.kept.proofs.Moves.{record_moves, record_advanced}
-use Rattle.board.proofs.Ways.{not_with, record_called}
-use Rattle.kept.proofs.Laws.{state_long}
+use Rattle.std.proofs.Common.{sym, []}
+use Rattle.device.specs.Outcomes.{Outcome, lends}
+use Rattle.model.specs.Inbox.{read_record}
+use Rattle.model.specs.Box.{on_receive}
+use Rattle.promises.specs.Calls.{outcome}
+use Rattle.kept.proofs.Laws.{chosen}
+use Rattle.kept.proofs.Moves.{record_moves, advanced_left}
+use Rattle.board.specs.Board.{borrowed}
+use Rattle.board.proofs.Ways.{record_still, went_with}
 use Rattle.board.proofs.receiving.sv_read_record.Goals as goal
 
-pub returns-then-not-is_state : goal.returns-then-not-is_state
-returns-then-not-is_state c = not_with _ _ _ (sym c.is_state.ensures ∙ c.if-not-is_state.true)
-
-pub device_in-d-requires : goal.device_in-d-requires
-device_in-d-requires c = state_long _ (sym c.is_state.ensures ∙ c.if-not-is_state.false)
-
-pub leave_advanced-requires : goal.leave_advanced-requires
-leave_advanced-requires c =
-    (sym c.is_state.ensures ∙ c.if-not-is_state.false)
-
-pub returns : goal.returns
-returns c =
-    let a = c.args in
-    let d = c.device_in-d.result in
-    let l = lends a.queue.now [] [] in
-    let read = c.read_record-r.ensures in
-    let left = record_advanced a.state.now c.device_in-d.ensures (record_read d l) (record_moves d l) read
-    c.leave_advanced.ensures in
-    record_called _ (sym c.is_state.ensures ∙ c.if-not-is_state.false) c.device_in-d.ensures
-    left read c.hand_event.ensures
+pub returns-in-Ok : goal.returns-in-Ok
+unfolding outcome borrowed
+returns-in-Ok c =
+    let d = c.in-Some.d in
+    let l = lends c.args.queue.now [] [] in
+    let s = chosen _ c.device_in.ensures c.in-Some.is in
+    let met = c.in-Ok.ensures in
+    let kept = advanced_left c.args.state.now s.1 (rw met.leaves.device (record_moves d l)) c.leave_advanced.ensures in
+    went_with (on_receive read_record) _ l s.0 s.1 met.leaves.number met.leaves.device kept
+    (λ i. lends (sym (record_still d l) i) [] []) (λ (o : Outcome). o.bytes) met.bytes

@@ -1,29 +1,23 @@
-use mathlib.Core.Path.{sym, ◌∙◌}
-use mathlib.Core.List.{[]}
-use Rattle.device.specs.Outcomes.{lends}
-use Rattle.recorder.specs.Register.{taken}
-use Rattle.kept.proofs.Moves.{take_moves, taken_transferred}
-use Rattle.board.proofs.Ways.{not_with, take_called}
-use Rattle.kept.proofs.Laws.{state_long}
+use Rattle.std.proofs.Common.{sym, []}
+use Rattle.device.specs.Outcomes.{Outcome, lends}
+use Rattle.model.specs.Outbox.{take}
+use Rattle.model.specs.Box.{on_send}
+use Rattle.promises.specs.Calls.{outcome}
+use Rattle.kept.proofs.Laws.{chosen}
+use Rattle.kept.proofs.Moves.{take_moves, transferred_left}
+use Rattle.board.specs.Board.{borrowed}
+use Rattle.board.proofs.Ways.{take_still, went_with}
 use Rattle.board.proofs.register.sv_take.Goals as goal
 
-pub returns-then-not-is_state : goal.returns-then-not-is_state
-returns-then-not-is_state c = not_with _ _ _ (sym c.is_state.ensures ∙ c.if-not-is_state.true)
-
-pub device_in-d-requires : goal.device_in-d-requires
-device_in-d-requires c = state_long _ (sym c.is_state.ensures ∙ c.if-not-is_state.false)
-
-pub leave_transferred-requires : goal.leave_transferred-requires
-leave_transferred-requires c =
-    (sym c.is_state.ensures ∙ c.if-not-is_state.false)
-
-pub returns : goal.returns
-returns c =
+pub returns-in-Ok : goal.returns-in-Ok
+unfolding outcome borrowed
+returns-in-Ok c =
     let a = c.args in
-    let d = c.device_in-d.result in
+    let d = c.in-Some.d in
     let l = lends a.queue.now a.send.now [] in
-    let take = c.take-r.ensures in
-    let left = taken_transferred a.state.now c.device_in-d.ensures (taken a.tick d l)
-    (take_moves d l a.tick) take.answer c.leave_transferred.ensures in
-    take_called _ (sym c.is_state.ensures ∙ c.if-not-is_state.false) c.device_in-d.ensures
-    _ _ left take c.hand_message.ensures
+    let s = chosen _ c.device_in.ensures c.in-Some.is in
+    let met = c.in-Ok.ensures.met in
+    let kept = transferred_left a.state.now s.1 (rw met.leaves.device (take_moves d l a.tick))
+    c.leave_transferred.ensures in
+    went_with (on_send (take a.tick)) _ l s.0 s.1 met.leaves.number met.leaves.device kept
+    (λ i. lends (met.queue_bytes i) (sym (take_still a.tick d l) i) []) (λ (o : Outcome). o.bytes) c.in-Ok.ensures.bytes

@@ -1,7 +1,6 @@
+use Rattle.std.proofs.Common.{sym}
 use Rattle.message_text.proofs.Printed.{record_printed}
 use Rattle.message_text.proofs.printing.print_record.Goals as goal
 
 pub returns : goal.returns
-returns c =
-    let j = c.judge_message-j in
-    record_printed c.args.s.now j.result j.ensures c.args.align (rw c.if-not-j.false) c.print_message.ensures
+returns c = record_printed c.args.s.now c.in-Some.m c.args.align (sym c.in-Some.ensures) c.print_message.ensures

@@ -1,9 +1,12 @@
-use borrow.Author.Rules.{rules}
-use native.Mathlib.Omega.{arith}
-use Rattle.message_text.proofs.Data.{data_more}
+use Rattle.std.proofs.Common.{◌∙◌, arith, rules}
+use Rattle.message_text.proofs.Data.{bytes_more, data_more}
 use Rattle.message_text.proofs.reading.data_bytes.Goals as goal
 
-pub loop-k-preserved : goal.loop-k-preserved
-loop-k-preserved c =
-    let i = c.loop-k.invariant in
-    (search rules, i.1, search rules, rw i.3 (data_more c.args.at c.loop-k.k i.1 (omega arith) c.requires.1))
+pub loop-i-preserved : goal.loop-i-preserved
+loop-i-preserved c =
+    let l = c.loop-i in
+    let read = c.in-Ok.ensures in record {
+      size = search rules;
+      read = data_more c.args.values.now l.bytes l.i c.in-Ok.byte (omega arith) (omega arith) read.1 l.invariant.read;
+      left = l.invariant.left ∙ bytes_more c.args.values.now l.i (omega arith) read.0;
+    }

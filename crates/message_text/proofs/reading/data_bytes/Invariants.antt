@@ -1,10 +1,10 @@
-use Rattle.std.proofs.Common.{◌-◌, ◌≡◌, ◌≤◌, length}
-use Rattle.message_text.proofs.Data.{data_so_far}
+use Rattle.std.proofs.Common.{◌≡◌, length, take, drop}
+use Rattle.message_text.specs.Reading.{all_bytes}
 use Rattle.message_text.proofs.reading.data_bytes.Given as goal
 
-abbrev pub invariant-loop-k : goal.invariant-loop-k
-invariant-loop-k l =
-    (l.k ≤ l.n) × (length l.at ≡ 11) × (length l.bytes ≡ 8) × (l.bytes ≡ data_so_far l.at l.k)
-
-abbrev pub decreases-loop-k : goal.decreases-loop-k
-decreases-loop-k l = l.n - l.k
+abbrev pub invariant-loop-i : goal.invariant-loop-i
+invariant-loop-i l = record {
+  size : length l.bytes ≡ 8;
+  read : take l.i l.bytes ≡ take l.i l.values;
+  left : all_bytes l.values ≡ all_bytes (drop l.i l.values);
+}

@@ -1,28 +1,25 @@
-use Rattle.std.proofs.Common.{[], ◌∙◌, sym}
+use Rattle.std.proofs.Common.{arith, ◌≡◌, refl, sym, ◌∙◌, []}
+use Rattle.std.proofs.lemmas.Grind.{common_steps}
 use Rattle.messages.specs.Records.{no_message}
-use Rattle.events.specs.Raised.{event_of}
-use Rattle.queue.proofs.Laws.{next_past, room_for, built}
 use Rattle.device.specs.Outcomes.{lends}
+use Rattle.recorder.specs.Changes.{changed}
+use Rattle.recorder.specs.Outcomes.{noted}
+use Rattle.recorder.proofs.ChangeWays.{change_past}
 use Rattle.recorder.proofs.Ready.{ready_usable}
-use Rattle.recorder.proofs.ChangeWays.{change_met}
 use Rattle.recorder.proofs.changes.change.Goals as goal
 
-pub past_filter-met-requires : goal.past_filter-met-requires
-past_filter-met-requires c =
-    ready_usable c.args.d (lends c.args.queue.now [] []) (sym c.queue_ready.ensures ∙ c.if-not-queue_ready.false)
-
-pub after_raise-requires : goal.after_raise-requires
-after_raise-requires c =
-    let a = c.args in
-    room_for (next_past a.d.receive (event_of a.s.site _ a.tick _) a.queue.now) c.past_filter-met.ensures.number
+pub past_filter-requires : goal.past_filter-requires
+past_filter-requires c =
+    ready_usable c.args.d.now (lends c.args.queue.now [] []) (sym c.queue_ready.ensures ∙ c.if-not-queue_ready.false)
 
 pub returns : goal.returns
+unfolding changed noted
 returns c =
-    let ready = sym c.queue_ready.ensures ∙ c.if-not-queue_ready.false in
-    let good = sym c.is_shared.ensures ∙ c.if-not-is_shared.false in
     let a = c.args in
-    let e = event_of a.s.site 5 a.tick no_message in
-    let met = rw c.no_message.ensures at c.past_filter-met.ensures in
-    let next = built (next_past a.d.receive e a.queue.now) met.number c.after_raise.ensures in
-    change_met a.s a.tick a.d (lends a.queue.now [] []) ready good met next
-    (c.answer-2.ensures ∙ rw (c.with_receive-after.ensures, c.with_shared.ensures))
+    let ready = sym c.queue_ready.ensures ∙ c.if-not-queue_ready.false in
+    let good = sym c.is_good.ensures ∙ c.if-not-is_good.false in
+    let past = change_past a.s a.tick a.d.now (lends a.queue.now [] []) in
+    let none : c.default.result ≡ no_message = grind (arith, common_steps) in
+    let met = rw none at c.past_filter.ensures in
+    rw (ready, good, past)
+    (record { leaves = record { number = refl; device = rw met.receive }; queue_bytes = met.table })

@@ -1,27 +1,25 @@
-use Rattle.std.proofs.Common.{[], ap, ◌∙◌, sym}
-use Rattle.queue.proofs.Laws.{room_for, built}
+use Rattle.std.proofs.Common.{rules, sym, ◌∙◌, []}
 use Rattle.outbox.specs.Calls as Outbox
-use Rattle.outbox.proofs.Laws.{take_raises}
-use Rattle.device.specs.State.{with_receive, with_send}
+use Rattle.outbox.proofs.Laws.{take_raises, take_refused}
 use Rattle.device.specs.Outcomes.{lends}
 use Rattle.recorder.specs.Register.{taken}
-use Rattle.recorder.proofs.SendWays.{carried_next, taken_met}
+use Rattle.recorder.proofs.SendWays.{carrying_refused, carrying_done}
 use Rattle.recorder.proofs.register.take.Goals as goal
 
-pub after_raise-requires : goal.after_raise-requires
-after_raise-requires c =
-    let a = c.args in
-    room_for (carried_next _ a.d.receive a.queue.now a.d.shared.site) c.carry-met.ensures.number
-
-pub returns : goal.returns
+pub returns-in_err-taken-clause-met : goal.returns-in_err-taken-clause-met
 unfolding taken
-returns c =
-    let o = c.take-o.result in
-    let ready = sym c.receive_ready.ensures ∙ c.if-not-receive_ready.false in
+returns-in_err-taken-clause-met c =
     let a = c.args in
-    let l = lends a.queue.now a.send.now [] in
-    let met = c.carry-met.ensures in
-    let next = built (carried_next o.raised a.d.receive a.queue.now a.d.shared.site) met.number c.after_raise.ensures in
-    let after = c.with_channels-after.ensures ∙ ap (with_receive (with_send a.d o.send)) next in
-    let other = take_raises a.d.shared a.d.send a.tick a.send.now in
-    taken_met (Outbox.taken a.d.shared a.d.send a.tick a.send.now) a.d l _ _ ready other o c.take-o.ensures after met.table
+    let ready = sym c.receive_ready.ensures ∙ c.if-not-receive_ready.false in
+    let e = c.in_err-taken.ensures in
+    carrying_refused (Outbox.taken a.d.now.shared a.d.now.send a.tick a.send.now) a.d.now (lends a.queue.now a.send.now []) _ ready (search rules) e.leaves.send
+    (take_refused a.d.now.shared a.d.now.send a.tick a.send.now c.in_err-taken.field-0.0 e.leaves.number)
+
+pub returns-clause-met : goal.returns-clause-met
+unfolding taken
+returns-clause-met c =
+    let a = c.args in
+    let ready = sym c.receive_ready.ensures ∙ c.if-not-receive_ready.false in
+    let e = c.in_ok-taken.ensures in
+    carrying_done (Outbox.taken a.d.now.shared a.d.now.send a.tick a.send.now) a.d.now (lends a.queue.now a.send.now []) _ ready e.leaves.number e.leaves.send
+    (take_raises a.d.now.shared a.d.now.send a.tick a.send.now) e.raised c.carry.ensures
