@@ -30,7 +30,7 @@ fn run(rt: &impl Print, mut device: Device, texts: &[u8]) {
             Ok(bytes) => show::record_line(bytes),
             Err(why) => show::refused_line(why.number(), used),
         };
-        page::make_room(rt, &mut page);
+        page::make_room(rt, &mut page, line.len());
         page.text(line.as_bytes());
         rest = &rest[used_of(used, rest.len())..];
     }

@@ -2,16 +2,16 @@
 ghost use Rattle.std.specs.Prelude.{◌≤◌, ◌+◌, length};
 
 use digits::Line;
-use show::LINE;
 
 // The bytes of the lines gathered.
 pub const ROOM: usize = 4096;
 
-// Makes room for one more line: where there is none, the lines that are there are written, and a page is begun.
-pub fn make_room(rt: &impl Print, page: &mut Line<ROOM>)
-    ensures { length page.new + LINE ≤ ROOM }
+// Makes room for n bytes more: where there is none, the lines that are there are written, and a page is begun.
+pub fn make_room(rt: &impl Print, page: &mut Line<ROOM>, n: usize)
+    requires { n ≤ ROOM }
+    ensures { length page.new + n ≤ ROOM }
 {
-    if ROOM - LINE < page.len() {
+    if ROOM - n < page.len() {
         show::write_line(rt, page);
         *page = Line::new();
     }

@@ -1,7 +1,8 @@
-// Digits: a line of text that is written, and digits read from a text.
+// Digits: read from a text, written into a lent buffer, and gathered in a line of its own.
 #![tactic(auto)]
 
+pub mod line;
 pub mod reading;
 pub mod writing;
 
-pub use writing::Line;
+pub use line::Line;

@@ -1,22 +1,26 @@
-// A line of text of at most N bytes: each writer appends to it.
-ghost use Rattle.std.specs.Prelude.{◌≡◌, ℕ, ◌∷◌, [], ◌++◌, ◌+◌, ◌*◌, ◌≤◌, ◌<◌, List, length, take, drop};
+// Digits written into a lent buffer from a place on: each writer answers the place after what it wrote.
+ghost use Rattle.std.specs.Prelude.{◌≡◌, ◌∷◌, [], ◌+◌, ◌*◌, ◌≤◌, ◌<◌, length};
 ghost use Rattle.digits.specs.Digits.{hex_digit, hex, decimal, fields};
+ghost use Rattle.digits.specs.Written.{Put};
 
-use std::marker::Model;
-
-#[derive(Drop)]
-pub struct Line<const N: usize> {
-    bytes: [u8; N],
-    len: usize,
+// One byte.
+pub fn put_byte(out: &mut [u8], at: usize, b: u8) -> usize
+    requires { at < length out.old }
+    ensures { Put out.old at (b ∷ []) out.new result }
+{
+    out[at] = b;
+    at + 1
 }
 
-// Clauses see the bytes written so far.
-impl<const N: usize> Model for Line<N> {
-    ghost Value = { List ℕ };
-
-    ghost view = { λ l. take l.len l.bytes };
-
-    ghost invariant = { λ l. l.len ≤ N };
+// A text as it is.
+pub fn put_text(out: &mut [u8], at: usize, text: &[u8]) -> usize
+    requires { at + length text.now ≤ length out.old }
+    ensures { Put out.old at text.now out.new result }
+{
+    for i in 0..text.len() {
+        out[at + i] = text[i];
+    }
+    at + text.len()
 }
 
 // The upper case hexadecimal digit of a value below 16.
@@ -28,114 +32,72 @@ fn digit(d: u8) -> u8
     if d < 10 { b'0' + d } else { b'A' - 10 + d }
 }
 
-impl<const N: usize> Line<N> {
-    pub fn new() -> Self
-        ensures { result ≡ [] }
-    {
-        Line {
-            bytes: [0; N],
-            len: 0,
-        }
+// The w lowest hexadecimal digits of n, the highest first.
+pub fn put_hex(out: &mut [u8], at: usize, n: u32, w: u32) -> usize
+    requires { (w ≤ 8) × (at + w ≤ length out.old) }
+    ensures { Put out.old at (hex w n) out.new result }
+{
+    let mut end = at;
+    for k in (0..w).rev() {
+        out[end] = digit(((n >> (4 * k)) % 16) as u8);
+        end += 1;
     }
+    end
+}
 
-    pub fn len(&self) -> usize
-        ensures { result ≡ length self.now }
-    {
-        self.len
+// How many digits a number has in decimal.
+fn digits_in(n: u64) -> usize
+    ensures { result ≡ length (decimal n) }
+{
+    let mut rest = n;
+    let mut w: usize = 1;
+    while 10 <= rest {
+        rest /= 10;
+        w += 1;
     }
+    w
+}
 
-    pub fn as_bytes(&self) -> &[u8]
-        ensures { result.now ≡ self.now }
-    {
-        &self.bytes[..self.len]
+// A number in decimal, without leading zeros: its last digit first.
+pub fn put_decimal(out: &mut [u8], at: usize, n: u64) -> usize
+    requires { at + length (decimal n) ≤ length out.old }
+    ensures { Put out.old at (decimal n) out.new result }
+{
+    let end = at + digits_in(n);
+    let mut rest = n;
+    for i in (at..end).rev() {
+        out[i] = b'0' + (rest % 10) as u8;
+        rest /= 10;
     }
+    end
+}
 
-    // Copies the line over the front of a buffer, and says how long it is.
-    pub fn copy_to(&self, out: &mut [u8]) -> usize
-        requires { length self.now ≤ length out.old }
-        ensures bytes { out.new ≡ self.now ++ drop (length self.now) out.old }
-        ensures count { result ≡ length self.now }
-    {
-        out[..self.len].copy_from_slice(&self.bytes[..self.len]);
-        self.len
-    }
+// A separator and the w lowest hexadecimal digits of n.
+pub fn put_field(out: &mut [u8], at: usize, separator: u8, n: u32, w: u32) -> usize
+    requires { (w ≤ 8) × (at + (w + 1) ≤ length out.old) }
+    ensures { Put out.old at (separator ∷ hex w n) out.new result }
+{
+    let from = put_byte(out, at, separator);
+    put_hex(out, from, n, w)
+}
 
-    pub fn byte(&mut self, b: u8)
-        requires { length self.old < N }
-        ensures { self.new ≡ self.old ++ b ∷ [] }
-    {
-        self.bytes[self.len] = b;
-        self.len += 1;
-    }
+// A separator and a number in decimal.
+pub fn put_number(out: &mut [u8], at: usize, separator: u8, n: u64) -> usize
+    requires { at + length (separator ∷ decimal n) ≤ length out.old }
+    ensures { Put out.old at (separator ∷ decimal n) out.new result }
+{
+    let from = put_byte(out, at, separator);
+    put_decimal(out, from, n)
+}
 
-    // A text as it is.
-    pub fn text(&mut self, text: &[u8])
-        requires { length self.old + length text.now ≤ N }
-        ensures { self.new ≡ self.old ++ text.now }
-    {
-        let end = self.len + text.len();
-        let bytes = &mut self.bytes[..];
-        bytes[self.len..end].copy_from_slice(text);
-        self.len = end;
+// Each byte as two hexadecimal digits behind a separator.
+pub fn put_bytes(out: &mut [u8], at: usize, separator: u8, b: &[u8]) -> usize
+    requires { at + 3 * length b.now ≤ length out.old }
+    ensures { Put out.old at (fields separator b.now) out.new result }
+{
+    let mut end = at;
+    for x in b {
+        end = put_field(out, end, separator, u32::from(*x), 2);
     }
-
-    // The w lowest hexadecimal digits of n, the highest first: the length is stored once, which is faster.
-    pub fn hex(&mut self, n: u32, w: u32)
-        requires width { w ≤ 8 }
-        requires room { length self.old + w ≤ N }
-        ensures { self.new ≡ self.old ++ hex w n }
-    {
-        let mut end = self.len;
-        for k in (0..w).rev() {
-            self.bytes[end] = digit(((n >> (4 * k)) % 16) as u8);
-            end += 1;
-        }
-        self.len = end;
-    }
-
-    // A number in decimal, without leading zeros: its last digit is found first.
-    pub fn decimal(&mut self, n: u64)
-        requires { length self.old + length (decimal n) ≤ N }
-        ensures { self.new ≡ self.old ++ decimal n }
-    {
-        let mut digits = [0; 20];
-        let mut first = 19;
-        let mut rest = n;
-        while 10 <= rest {
-            digits[first] = b'0' + (rest % 10) as u8;
-            rest /= 10;
-            first -= 1;
-        }
-        digits[first] = b'0' + rest as u8;
-        self.text(&digits[first..]);
-    }
-
-    // A separator and the w lowest hexadecimal digits of n.
-    pub fn field(&mut self, separator: u8, n: u32, w: u32)
-        requires width { w ≤ 8 }
-        requires room { length self.old + 1 + w ≤ N }
-        ensures { self.new ≡ self.old ++ separator ∷ hex w n }
-    {
-        self.byte(separator);
-        self.hex(n, w);
-    }
-
-    // A separator and a number in decimal.
-    pub fn number(&mut self, separator: u8, n: u64)
-        requires { length self.old + length (separator ∷ decimal n) ≤ N }
-        ensures { self.new ≡ self.old ++ separator ∷ decimal n }
-    {
-        self.byte(separator);
-        self.decimal(n);
-    }
-
-    // Each byte as two hexadecimal digits behind a separator.
-    pub fn bytes(&mut self, separator: u8, b: &[u8])
-        requires { length self.old + 3 * length b.now ≤ N }
-        ensures { self.new ≡ self.old ++ fields separator b.now }
-    {
-        for x in b {
-            self.field(separator, u32::from(*x), 2);
-        }
-    }
+    end
 }

@@ -1,28 +1,27 @@
 // A message printed into a lent buffer.
-ghost use Rattle.std.specs.Prelude.{◌≡◌, length};
-ghost use Rattle.digits.specs.Written.{Prints};
+ghost use Rattle.std.specs.Prelude.{◌≡◌, ◌≤◌, length};
+ghost use Rattle.digits.specs.Written.{Put, Prints};
 ghost use Rattle.messages.specs.Records.{message_in};
-ghost use Rattle.message_text.specs.Printing.{message_text, message_line, message_refusal, message_record_refusal};
+ghost use Rattle.message_text.specs.Printing.{message_room, message_text, message_line, message_refusal, message_record_refusal};
 
 use common::refusals::Refusal;
-use digits::Line;
+use digits::writing;
 use messages::Message;
 
 // The room that the longest line needs.
 pub const ROOM: usize = 37;
 
 // The line of a message whose aligned identifier is id.
-#[tactic(auto, unfolding(crate::specs::Printing::message_text), using(digits::proofs::Lengths::lengths, ids::proofs::Frames::carried_le))]
-fn line_of(id: u32, m: Message) -> Line<ROOM>
-    ensures { result ≡ message_text id m.header m.bytes }
+#[tactic(auto, using(digits::proofs::Lengths::lengths, ids::proofs::Frames::carried_le))]
+fn put_message(out: &mut [u8], id: u32, m: Message) -> usize
+    requires { message_room ≤ length out.old }
+    ensures { Put out.old 0 (message_text id m.header m.bytes) out.new result }
 {
-    let mut line = Line::new();
-    line.hex(id, 8);
-    line.field(b' ', m.header.rtr, 1);
-    line.field(b' ', m.header.dlc, 1);
-    line.bytes(b' ', &m.bytes[..m.header.carried() as usize]);
-    line.byte(b'\n');
-    line
+    let p = writing::put_hex(out, 0, id, 8);
+    let q = writing::put_field(out, p, b' ', m.header.rtr, 1);
+    let r = writing::put_field(out, q, b' ', m.header.dlc, 1);
+    let s = writing::put_bytes(out, r, b' ', &m.bytes[..m.header.carried() as usize]);
+    writing::put_byte(out, s, b'\n')
 }
 
 // Prints a message given alone: its identifier is raw.
@@ -41,7 +40,7 @@ pub fn print_message(align: u32, m: Message, out: &mut [u8]) -> Result<usize, Re
     let Some(id) = ids::align::align_id(align, m.header.format, m.header.id) else {
         return Err(Refusal::BadIdentifier);
     };
-    Ok(line_of(id, m).copy_to(out))
+    Ok(put_message(out, id, m))
 }
 
 // Prints a message record.

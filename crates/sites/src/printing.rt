@@ -1,10 +1,11 @@
-// A site as text: TAB, sign and hh:mm, TAB, the second in decimal.
-ghost use Rattle.std.specs.Prelude.{◌≡◌, true, ◌++◌, ◌+◌, ◌<◌, ◌≤◌, length};
+// A site as text, written into a lent buffer: TAB, sign and hh:mm, TAB, the second in decimal.
+ghost use Rattle.std.specs.Prelude.{◌≡◌, true, ◌+◌, ◌<◌, ◌≤◌, length};
+ghost use Rattle.digits.specs.Written.{Put};
 ghost use Rattle.sites.specs.Sites.{good_offset, good_site};
 ghost use Rattle.sites.specs.Texts.{sign_of, minutes, two_digits, offset_text, site_text};
 
 use crate::Site;
-use digits::Line;
+use digits::writing;
 
 // The offsets from here on are below zero, in two's complement.
 const WEST: u32 = 0x8000_0000;
@@ -27,37 +28,34 @@ fn minutes(n: u32) -> u32
 }
 
 // A number below a hundred as two digits.
-fn put_two<const N: usize>(line: &mut Line<N>, k: u32)
-    requires digits { k < 100 }
-    requires room { length line.old + 2 ≤ N }
-    ensures { line.new ≡ line.old ++ two_digits k }
+fn put_two(out: &mut [u8], at: usize, k: u32) -> usize
+    requires { (k < 100) × (at + 2 ≤ length out.old) }
+    ensures { Put out.old at (two_digits k) out.new result }
 {
-    line.byte(b'0' + (k / 10) as u8);
-    line.byte(b'0' + (k % 10) as u8);
+    let at = writing::put_byte(out, at, b'0' + (k / 10) as u8);
+    writing::put_byte(out, at, b'0' + (k % 10) as u8)
 }
 
 // The sign, the hours, a colon and the minutes.
 #[tactic(auto, unfolding(crate::specs::Texts::offset_text))]
-fn put_offset<const N: usize>(line: &mut Line<N>, n: u32)
-    requires good { good_offset n ≡ true }
-    requires room { length line.old + 6 ≤ N }
-    ensures { line.new ≡ line.old ++ offset_text n }
+fn put_offset(out: &mut [u8], at: usize, n: u32) -> usize
+    requires { (good_offset n ≡ true) × (at + 6 ≤ length out.old) }
+    ensures { Put out.old at (offset_text n) out.new result }
 {
     let m = minutes(n);
-    line.byte(sign_of(n));
-    put_two(line, m / 60);
-    line.byte(b':');
-    put_two(line, m % 60);
+    let at = writing::put_byte(out, at, sign_of(n));
+    let at = put_two(out, at, m / 60);
+    let at = writing::put_byte(out, at, b':');
+    put_two(out, at, m % 60)
 }
 
 // A site's two fields, each behind a TAB.
-#[tactic(auto, unfolding(crate::specs::Texts::site_text), using(crate::proofs::Lengths::site_length, crate::proofs::Lengths::offset_length))]
-pub fn put_site<const N: usize>(line: &mut Line<N>, s: Site)
-    requires good { good_site s ≡ true }
-    requires room { length line.old + length (site_text s) ≤ N }
-    ensures { line.new ≡ line.old ++ site_text s }
+#[tactic(auto, using(crate::proofs::Good::good_site_lem, crate::proofs::Lengths::site_length, crate::proofs::Lengths::offset_length))]
+pub fn put_site(out: &mut [u8], at: usize, s: Site) -> usize
+    requires { (good_site s ≡ true) × (at + length (site_text s) ≤ length out.old) }
+    ensures { Put out.old at (site_text s) out.new result }
 {
-    line.byte(b'\t');
-    put_offset(line, s.offset);
-    line.number(b'\t', s.second);
+    let at = writing::put_byte(out, at, b'\t');
+    let at = put_offset(out, at, s.offset);
+    writing::put_number(out, at, b'\t', s.second)
 }

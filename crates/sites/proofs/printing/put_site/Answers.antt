@@ -1,9 +1,7 @@
-use Rattle.std.proofs.Common.{arith, rules, ap, length, length-append}
-use Rattle.sites.proofs.Good.{good_site_lem}
-use Rattle.sites.proofs.Lengths.{site_length}
+use Rattle.digits.proofs.Written.{then}
+use Rattle.sites.specs.Texts.{site_text}
 use Rattle.sites.proofs.printing.put_site.Goals as goal
 
-pub put_offset-requires : goal.put_offset-requires
-put_offset-requires g c =
-    let n = simp length-append at (ap length c.byte.ensures) in
-    (search rules, ((good_site_lem c.args.s c.requires.good).0, omega (arith, site_length c.args.s)))
+pub returns : goal.returns
+unfolding site_text
+returns c = then (then c.put_byte-at.ensures c.put_offset-at.ensures) c.put_number.ensures
