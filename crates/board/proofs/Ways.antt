@@ -40,7 +40,7 @@ use Rattle.kept.specs.State.{state_bytes, device_in, is_state, is_possible, coun
 use Rattle.kept.specs.Handing.{left}
 use Rattle.kept.proofs.Judged.{possible_state, possible_good, impossible_good, good_send_lem, raise_impossible}
 use Rattle.kept.proofs.Moves.{Counts, raise_moves, counted_left}
-use Rattle.kept.proofs.Laws.{kept_old, kept_new, kept_still}
+use Rattle.kept.proofs.Laws.{refused_left, zero_left, kept_still}
 use Rattle.board.specs.Board.{Borrows, borrowed, lent_to, hands_back, whole, on, called, Called, CalledWith}
 
 -- what a call is lent, handed back as it was, is everything
@@ -105,23 +105,23 @@ module _ (x : Call) (s : List ℕ) (l : Lent) (h : is_state s ≡ true) {d : Dev
   module _ {e : Device} {t : List ℕ} {m : Lent} (k : 0 ≡ o.number) (n : e ≡ o.device) (w : t ≡ state_bytes e)
       (b : m ≡ hands_back (borrowed x) l o.lent) where
     pub went : Called (called x s l) s 0 t m
-    went = settled k (w ∙ ap state_bytes n ∙ sym (kept_new s (state_bytes o.device))) b
+    went = settled k (w ∙ ap state_bytes n ∙ sym (zero_left s (state_bytes o.device))) b
 
     -- with a place for what f says of the outcome
     pub went_with : {A : Type 0} (f : Outcome → A) {was v : A} → v ≡ f (whole (borrowed x) l o)
         → CalledWith (called x s l) s was (f (called x s l)) 0 t m v
     went_with f {was} u =
         let new = f (called x s l) in
-        let e = sym (kept_new was new) ∙ ap (λ (n : ℕ). left n was new) went.number in
+        let e = sym (zero_left was new) ∙ ap (λ (n : ℕ). left n was new) went.number in
         record { call = went; value_is = u ∙ sym (ap f told) ∙ e }
 
 -- what hand writes where a call of the number n answers r, the value new if it is not refused
 handed : {n : ℕ} (was : ℕ) {new v : ℕ} (r : Result ℕ Refusal) → Answers n new r → IfOk r (λ x. v ≡ x) → OnErr r (v ≡ was)
     → v ≡ left n was new
 handed was {new = new} (Ok x) a w k =
-    w ∙ a.value ∙ sym (kept_new was new) ∙ ap (λ (m : ℕ). left m was new) a.number
+    w ∙ a.value ∙ sym (zero_left was new) ∙ ap (λ (m : ℕ). left m was new) a.number
 handed was {new = new} (Err e) a w k =
-    k ∙ sym (kept_old e was new) ∙ ap (λ (m : ℕ). left m was new) a.number
+    k ∙ sym (refused_left e was new) ∙ ap (λ (m : ℕ). left m was new) a.number
 
 -- a printed line
 pub print_called : (y : PrintCall) (s out : List ℕ) → Bytes s → is_state s ≡ true → {d : Device} → d ≡ device_in s

@@ -5,7 +5,7 @@ ghost use Rattle.model.specs.Inbox.{set_filter, set_event_mask};
 ghost use Rattle.model.specs.Box.{on_device, on_receive, set_mode, set_format, set_site};
 ghost use Rattle.board.specs.Board.{called, Called};
 
-use crate::changing::change;
+use kept::changing::change;
 use recorder::changes;
 use sites::Site;
 

@@ -20,11 +20,11 @@ pub extern "C" fn sv_print_message_record(
         CalledWith o state.now length.old o.value result state.now
         (lends [] [] out.new) length.new }
 {
-    let Some(d) = kept::state::device_in(state) else {
+    let Some(d) = kept::state::state_device(state) else {
         return Refusal::NotPossible.number();
     };
     let printed = recorder::printing::print_message_record(d, s, out);
-    kept::handing::hand(length, printed)
+    kept::handing::hand_answer(length, printed)
 }
 
 // Prints an event record.
@@ -40,11 +40,11 @@ pub extern "C" fn sv_print_event_record(
         CalledWith o state.now length.old o.value result state.now
         (lends [] [] out.new) length.new }
 {
-    let Some(d) = kept::state::device_in(state) else {
+    let Some(d) = kept::state::state_device(state) else {
         return Refusal::NotPossible.number();
     };
     let printed = recorder::printing::print_event_record(d, s, out);
-    kept::handing::hand(length, printed)
+    kept::handing::hand_answer(length, printed)
 }
 
 // Prints a message given alone: raw identifier, either mode.
@@ -64,10 +64,10 @@ pub extern "C" fn sv_print_message(
         CalledWith o state.now length.old o.value result state.now
         (lends [] [] out.new) length.new }
 {
-    let Some(d) = kept::state::device_in(state) else {
+    let Some(d) = kept::state::state_device(state) else {
         return Refusal::NotPossible.number();
     };
     let m = kept::handing::message(id, format, rtr, dlc, bytes);
     let printed = recorder::printing::print_message(d, m, out);
-    kept::handing::hand(length, printed)
+    kept::handing::hand_answer(length, printed)
 }

@@ -37,7 +37,7 @@ pub extern "C" fn sv_raise(
     match inbox::raising::raise_possible(d.shared, &mut d.receive, event, queue) {
         Err(refusal) => refusal.number(),
         Ok(met) => {
-            kept::handing::leave_counted(state, d.receive);
+            kept::handing::keep_counted(state, d.receive);
             met.number()
         }
     }
@@ -50,14 +50,14 @@ pub extern "C" fn sv_read_record(state: &mut [u8], queue: &[u8], out: &mut [u8; 
         CalledWith o state.old out.old o.bytes result state.new
         (lends queue.now [] []) out.new }
 {
-    let Some(mut d) = kept::state::device_in(state) else {
+    let Some(mut d) = kept::state::state_device(state) else {
         return Refusal::NotPossible.number();
     };
     match recorder::receiving::read_record(&mut d, queue) {
         Err(refusal) => refusal.number(),
         Ok(event) => {
-            kept::handing::leave_advanced(state, d.receive.ring);
             *out = event;
+            kept::handing::keep_advanced(state, d.receive.ring);
             0
         }
     }
@@ -76,14 +76,14 @@ pub extern "C" fn sv_read_text(
         CalledWith o state.old length.old o.value result state.new
         (lends queue.now [] out.new) length.new }
 {
-    let Some(mut d) = kept::state::device_in(state) else {
+    let Some(mut d) = kept::state::state_device(state) else {
         return Refusal::NotPossible.number();
     };
     match recorder::receiving::read_text(&mut d, queue, out) {
         Err(refusal) => refusal.number(),
         Ok(n) => {
-            kept::handing::leave_advanced(state, d.receive.ring);
             *length = n;
+            kept::handing::keep_advanced(state, d.receive.ring);
             0
         }
     }
@@ -95,7 +95,7 @@ pub extern "C" fn sv_look_number(state: &[u8], queue: &[u8], p: u32) -> u32
     ensures { let o : Outcome = called (on_receive (look p)) state.now (lends queue.now [] []) in
         Called o state.now result state.now (lends queue.now [] []) }
 {
-    let Some(d) = kept::state::device_in(state) else {
+    let Some(d) = kept::state::state_device(state) else {
         return Refusal::NotPossible.number();
     };
     kept::handing::number(recorder::receiving::check_look(d, queue, p))
@@ -109,7 +109,7 @@ pub extern "C" fn sv_look(state: &[u8], queue: &[u8], p: u32, offset: &mut usize
         (looked_at (device_in state.now).receive queue.now p) result state.now
         (lends queue.now [] []) offset.new }
 {
-    let Some(d) = kept::state::device_in(state) else {
+    let Some(d) = kept::state::state_device(state) else {
         return Refusal::NotPossible.number();
     };
     if let Err(refusal) = recorder::receiving::check_look(d, queue, p) {
@@ -126,9 +126,9 @@ pub extern "C" fn sv_identifiers_through(state: &[u8], format: u32, count: &mut 
         CalledWith o state.now count.old o.value result state.now (lends [] [] [])
         count.new }
 {
-    let Some(d) = kept::state::device_in(state) else {
+    let Some(d) = kept::state::state_device(state) else {
         return Refusal::NotPossible.number();
     };
     let through = recorder::receiving::identifiers_through(d, format);
-    kept::handing::hand(count, through)
+    kept::handing::hand_answer(count, through)
 }

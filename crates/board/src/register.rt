@@ -22,14 +22,14 @@ pub extern "C" fn sv_take(
         CalledWith o state.old out.old o.bytes result state.new
         (lends queue.new send.now []) out.new }
 {
-    let Some(mut d) = kept::state::device_in(state) else {
+    let Some(mut d) = kept::state::state_device(state) else {
         return Refusal::NotPossible.number();
     };
     match recorder::register::take(&mut d, tick, send, queue) {
         Err(refusal) => refusal.number(),
         Ok(message) => {
-            kept::handing::leave_transferred(state, d.receive, d.send);
             *out = message;
+            kept::handing::keep_transferred(state, d.receive, d.send);
             0
         }
     }
@@ -41,13 +41,13 @@ pub extern "C" fn sv_done(state: &mut [u8], tick: u32, queue: &mut [u8]) -> u32
     ensures { let o : Outcome = called (on_send (done tick)) state.old (lends queue.old [] []) in
         Called o state.old result state.new (lends queue.new [] []) }
 {
-    let Some(mut d) = kept::state::device_in(state) else {
+    let Some(mut d) = kept::state::state_device(state) else {
         return Refusal::NotPossible.number();
     };
     match recorder::register::done(&mut d, tick, queue) {
         Err(refusal) => refusal.number(),
         Ok(()) => {
-            kept::handing::leave_transferred(state, d.receive, d.send);
+            kept::handing::keep_transferred(state, d.receive, d.send);
             0
         }
     }
@@ -60,14 +60,14 @@ pub extern "C" fn sv_abort(state: &mut [u8], tick: u32, queue: &mut [u8], purged
         CalledWith o state.old purged.old o.value result state.new
         (lends queue.new [] []) purged.new }
 {
-    let Some(mut d) = kept::state::device_in(state) else {
+    let Some(mut d) = kept::state::state_device(state) else {
         return Refusal::NotPossible.number();
     };
     match recorder::register::abort(&mut d, tick, queue) {
         Err(refusal) => refusal.number(),
         Ok(count) => {
-            kept::handing::leave_transferred(state, d.receive, d.send);
             *purged = count;
+            kept::handing::keep_transferred(state, d.receive, d.send);
             0
         }
     }

@@ -6,8 +6,8 @@ ghost use Rattle.model.specs.Box.{on_send};
 ghost use Rattle.kept.specs.Handing.{message};
 ghost use Rattle.board.specs.Board.{called, Called};
 
-use crate::changing::change;
 use common::refusals::Refusal;
+use kept::changing::change;
 use recorder::sending;
 
 // Sends a message given in binary.
@@ -42,11 +42,11 @@ pub extern "C" fn sv_send_text(
         Called o state.old result state.new (lends [] send.new [])
         × (used.new ≡ o.value) }
 {
-    let Some(mut d) = kept::state::device_in(state) else {
+    let Some(mut d) = kept::state::state_device(state) else {
         *used = 0;
         return Refusal::NotPossible.number();
     };
     let text = sending::send_text(&mut d, text, send);
     *used = text.used;
-    kept::handing::leave(state, d, text.sent)
+    kept::handing::leave_answer(state, d, text.sent)
 }

@@ -7,7 +7,8 @@ use crate::Device;
 use settings::channel::Channel;
 
 impl Device {
-    // Settings and state numbers that a device can have.
+    // Settings and state numbers that a device can have. Inlined: a device passed by value is copied through memory.
+    #[inline(always)]
     #[tactic(auto, unfolding(crate::specs::State::good))]
     pub fn is_good(self) -> bool
         ensures { result ≡ good self }

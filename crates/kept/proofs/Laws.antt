@@ -50,13 +50,20 @@ state_written s d l e0 e1 (e2, m) =
 
 -- ---- what a call leaves
 
--- a refused call leaves a lent place, any other writes it
-pub kept_old : {A : Type 0} (e : Refusal) (old new : A) → left (refusal_number e) old new ≡ old
-kept_old e old new = rw (counts e)
+-- what a lent place holds after a call, the test of its number being b
+pub kept_old : {A : Type 0} {b : Bool} (n : ℕ) (old new : A) → b ≡ is_refusal n → b ≡ true → old ≡ left n old new
+kept_old n old new e h = rw (← e, h)
 
-pub kept_new : {A : Type 0} (old new : A) → left 0 old new ≡ new
+pub kept_new : {A : Type 0} {b : Bool} (n : ℕ) (old new : A) → b ≡ is_refusal n → b ≡ false → new ≡ left n old new
+kept_new n old new e h = rw (← e, h)
+
+-- so a refused call leaves it, and one that answers 0 writes it
+pub refused_left : {A : Type 0} (e : Refusal) (old new : A) → left (refusal_number e) old new ≡ old
+refused_left e old new = sym (kept_old (refusal_number e) old new (sym (counts e)) refl)
+
+pub zero_left : {A : Type 0} (old new : A) → left 0 old new ≡ new
 unfolding is_refusal
-kept_new old new = refl
+zero_left old new = sym (kept_new 0 old new refl refl)
 
 -- a state is so many bytes long
 pub state_long : (s : List ℕ) → is_state s ≡ true → length s ≡ state_size

@@ -13,9 +13,17 @@ pub const RECEIVE: usize = 24;
 
 pub const SEND: usize = 56;
 
+// The bytes are a state: as many, and the register is held or not.
+#[tactic(auto, unfolding(crate::specs::State::is_state))]
+pub fn is_state(s: &[u8]) -> bool
+    ensures { result ≡ is_state s.now }
+{
+    s.len() == STATE && words::word(s, SEND + 16) <= 1
+}
+
 // The bytes are a state whose device is possible, each part judged in place.
 #[tactic(auto, unfolding(crate::specs::State::is_possible, crate::specs::State::is_state, crate::specs::State::device_in, device::specs::State::good, buffer::specs::Channel::good_send))]
-fn is_possible(s: &[u8]) -> bool
+pub fn is_possible(s: &[u8]) -> bool
     ensures { result ≡ is_possible s.now }
 {
     s.len() == STATE
@@ -25,9 +33,9 @@ fn is_possible(s: &[u8]) -> bool
         && judging::is_register(s, SEND + 16)
 }
 
-// The device that so many bytes stand for.
+// The device that so many bytes stand for, whether they are a state or not.
 #[tactic(auto, unfolding(crate::specs::State::device_in))]
-fn read(s: &[u8]) -> Device
+pub fn device_in(s: &[u8]) -> Device
     requires { length s.now ≡ state_size }
     ensures { result ≡ device_in s.now }
 {
@@ -38,15 +46,15 @@ fn read(s: &[u8]) -> Device
     }
 }
 
-// The device of a state; none where the bytes are no state: another length, or a register neither held nor not.
-#[tactic(auto, unfolding(crate::specs::State::is_state))]
-pub fn device_in(s: &[u8]) -> Option<Device>
+// The device of a state; none where the bytes are no state.
+#[tactic(auto, using(crate::proofs::Laws::state_long))]
+pub fn state_device(s: &[u8]) -> Option<Device>
     ensures { result ≡ pick (is_state s.now) (Some (device_in s.now)) None }
 {
-    if s.len() != STATE || words::word(s, SEND + 16) > 1 {
+    if !is_state(s) {
         return None;
     }
-    Some(read(s))
+    Some(device_in(s))
 }
 
 // The device of a state that is possible, judged in place for the raise.
@@ -57,7 +65,7 @@ pub fn possible_device_in(s: &[u8]) -> Option<Device>
     if !is_possible(s) {
         return None;
     }
-    Some(read(s))
+    Some(device_in(s))
 }
 
 // Writes the device into the state.

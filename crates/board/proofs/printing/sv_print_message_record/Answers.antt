@@ -5,7 +5,7 @@ use Rattle.board.proofs.printing.sv_print_message_record.Goals as goal
 
 pub returns : goal.returns
 returns c =
-    let s = chosen _ c.device_in.ensures c.in-Some.is in
-    let h = c.hand.ensures in
+    let s = chosen _ c.state_device.ensures c.in-Some.is in
+    let h = c.hand_answer.ensures in
     print_called (print_message_record c.args.s.now) _ _
     (λ i. (c.type_inv.state i).fits) s.0 s.1 c.print_message_record-printed.ensures h.number h.value h.kept

@@ -12,6 +12,6 @@ place-requires c =
 
 pub returns : goal.returns
 returns c =
-    let s = chosen _ c.device_in.ensures c.in-Some.is in
+    let s = chosen _ c.state_device.ensures c.in-Some.is in
     look_shown c.args.p _ c.args.queue.now (λ i. (c.type_inv.state i).fits) s.0 s.1
     c.in_default-check_look.ensures c.place.ensures.place

@@ -14,8 +14,8 @@ unfolding outcome borrowed
 returns-in-Ok c =
     let d = c.in-Some.d in
     let l = lends c.args.queue.now [] c.args.out.now in
-    let s = chosen _ c.device_in.ensures c.in-Some.is in
+    let s = chosen _ c.state_device.ensures c.in-Some.is in
     let met = c.in-Ok.ensures in
-    let kept = advanced_left c.args.state.now s.1 (rw met.device (text_moves d l)) c.leave_advanced.ensures in
+    let kept = advanced_left c.args.state.now s.1 (rw met.device (text_moves d l)) c.keep_advanced.ensures in
     went_with (on_receive read_text) _ l s.0 s.1 met.prints.answer.number met.device kept
     (λ i. lends (sym (text_still d l) i) [] (met.prints.out_bytes i)) (λ (o : Outcome). o.value) met.prints.answer.value

@@ -15,9 +15,9 @@ returns-in-Ok c =
     let a = c.args in
     let d = c.in-Some.d in
     let l = lends a.queue.now [] [] in
-    let s = chosen _ c.device_in.ensures c.in-Some.is in
+    let s = chosen _ c.state_device.ensures c.in-Some.is in
     let met = c.in-Ok.ensures.met in
     let kept = transferred_left a.state.now s.1 (rw met.leaves.device (abort_moves d l a.tick))
-    c.leave_transferred.ensures in
+    c.keep_transferred.ensures in
     went_with (on_send (abort a.tick)) _ l s.0 s.1 met.leaves.number met.leaves.device kept
     (ap (λ (q : List ℕ). lends q [] []) met.queue_bytes) (λ (o : Outcome). o.value) c.in-Ok.ensures.purged

@@ -14,9 +14,9 @@ unfolding outcome borrowed
 returns-in-Ok c =
     let d = c.in-Some.d in
     let l = lends c.args.queue.now [] [] in
-    let s = chosen _ c.device_in.ensures c.in-Some.is in
+    let s = chosen _ c.state_device.ensures c.in-Some.is in
     let met = c.in-Ok.ensures in
     let kept = transferred_left c.args.state.now s.1 (rw met.leaves.device (done_moves d l c.args.tick))
-    c.leave_transferred.ensures in
+    c.keep_transferred.ensures in
     went (on_send (done c.args.tick)) _ l s.0 s.1 met.leaves.number met.leaves.device kept
     (ap (λ (q : List ℕ). lends q [] []) met.queue_bytes)
