@@ -115,7 +115,7 @@ module _ (x : Call) (s : List ℕ) (l : Lent) (h : is_state s ≡ true) {d : Dev
         let e = sym (zero_left was new) ∙ ap (λ (n : ℕ). left n was new) went.number in
         record { call = went; value_is = u ∙ sym (ap f told) ∙ e }
 
--- what hand writes where a call of the number n answers r, the value new if it is not refused
+-- what hand_answer writes where a call of the number n answers r, the value new if it is not refused
 handed : {n : ℕ} (was : ℕ) {new v : ℕ} (r : Result ℕ Refusal) → Answers n new r → IfOk r (λ x. v ≡ x) → OnErr r (v ≡ was)
     → v ≡ left n was new
 handed was {new = new} (Ok x) a w k =
