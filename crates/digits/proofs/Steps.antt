@@ -1,4 +1,4 @@
--- What one step of each writer leaves to write.
+-- How printed digits begin, and what one step of each writer leaves to write.
 use Prim.Native.Nat.{ℕ, zero, suc, ◌+◌, ◌-◌, ◌*◌, ◌/◌, ◌%◌, ◌^◌, ◌≤◌, ◌<◌}
 use mathlib.Core.Path.{◌≡◌, refl, sym, ap, ◌∙◌}
 use mathlib.Core.List.{List, [], ◌∷◌, ◌++◌}
@@ -28,6 +28,7 @@ hex_first (suc k) n p =
     let e : suc k - 1 ≡ k = omega arith in
     rw (e, pow16 k) refl
 
+-- no digit, where none is asked for
 pub hex_none : (n k : ℕ) → k ≤ 0 → hex k n ≡ []
 unfolding hex
 hex_none n zero h = refl
@@ -87,6 +88,7 @@ pub fields_first : (separator i : ℕ) (b : List ℕ) → i < length b
 unfolding fields
 fields_first separator i b h = rw (drop-cons b i 0 h, add-one i) refl
 
+-- nothing, behind the last byte
 pub fields_none : (separator : ℕ) (b : List ℕ) (i : ℕ) → length b ≤ i → fields separator (drop i b) ≡ []
 unfolding fields
 fields_none separator b i h = rw (drop_of_length-le b {i = i} h) refl
@@ -115,7 +117,7 @@ fields_done separator i b e f h z =
       place = rw (fields_length separator b) (omega arith);
     }
 
--- ---- decimal digits set in a list from the last one on: those from place i + 1 on stand in d
+-- ---- decimal digits set in a list of its own from the last one on: those from place i + 1 on stand in d
 
 -- one digit more
 pub decimal_next : (n i : ℕ) (d : List ℕ) → 10 ≤ n → n < 2 ^ 64 → 1 ≤ i → i < length d
